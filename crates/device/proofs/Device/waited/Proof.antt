@@ -1,0 +1,56 @@
+-- `device::Device::waited` meets its contract. Assumes nothing.
+use mathlib.Core.Path.{_∙_}
+use borrow.Author.Tests.{lt-ltb, le-ltb}
+use Rattle.device.specs.Device.{waited}
+use borrow.Author.Needs.{needs}
+use Rattle.device.proofs.Device.waited.Statement.{statement}
+use Rattle.device.proofs.Device.waited.Tie as tie
+
+enum-told : tie.Need-enum-told
+enum-told c = search needs
+
+enum-known-mode : tie.Need-enum-known-mode
+enum-known-mode c = search needs
+
+sub-running : tie.Need-sub-running
+sub-running c = search needs
+
+running-requires : tie.Need-running-requires
+running-requires c κs = search needs
+
+moded-requires : tie.Need-moded-requires
+moded-requires c κs = search needs
+
+enum-told-2 : tie.Need-enum-told-2
+enum-told-2 c = search needs
+
+returns : tie.Need-returns
+unfolding waited
+returns c = rw (c .enum-told .given .1)
+
+returns-2 : tie.Need-returns-2
+unfolding waited
+returns-2 c = c .running .ensures ∙ rw (c .before .before .before .mode .given .1, lt-ltb _ _ (c .before .if1 .taken))
+
+returns-3 : tie.Need-returns-3
+unfolding waited
+returns-3 c = c .moded .ensures ∙ rw (c .before .before .before .mode .given .1, le-ltb _ _ (c .before .if1 .left))
+
+returns-4 : tie.Need-returns-4
+unfolding waited
+returns-4 c = rw (c .enum-told2 .given .1)
+
+pub waited-spec : {M : Type 1} → statement M
+waited-spec =
+    tie.close
+    (tie.spec
+    enum-told
+    enum-known-mode
+    sub-running
+    running-requires
+    moded-requires
+    enum-told-2
+    returns
+    returns-2
+    returns-3
+    returns-4)

@@ -1,0 +1,103 @@
+-- The device record of document 01: its changes, when it is sound, its status byte, and what the checked calls answer.
+use mathlib.Core.Bool.{Bool, true, false, cond, not, _&&_}
+use Prim.Native.Nat.{ℕ, zero, suc, _+_, _*_, _-_, _%_}
+use lib.Dec.{ltb, leb}
+use Rattle.parts.specs.Parts.{knownPart, figuresOf}
+use Rattle.device.specs.declared.Mode.{Mode}
+use Rattle.device.specs.declared.Mode.the-variants.{Standby, Busy, Deep}
+use Rattle.device.specs.declared.Device.{Device}
+use Rattle.device.specs.declared.Checked.{Checked}
+
+-- the latch while t ticks are left
+unfoldable pub latchAt : ℕ → Bool
+latchAt t = true
+
+-- another latch and mode
+unfoldable pub moded : Device → Bool → Mode → Device
+moded d l m = record { part = d .part; bp = d .bp; srwd = d .srwd; latch = l; mode = m; program = d .program; «sector_erase» = d .«sector_erase»; «bulk_erase» = d .«bulk_erase»; «write_status» = d .«write_status» }
+
+-- another latch
+unfoldable pub latched : Device → Bool → Device
+latched d on = record { part = d .part; bp = d .bp; srwd = d .srwd; latch = on; mode = d .mode; program = d .program; «sector_erase» = d .«sector_erase»; «bulk_erase» = d .«bulk_erase»; «write_status» = d .«write_status» }
+
+-- other settings
+unfoldable pub settled : Device → Bool → ℕ → Device
+settled d w b = record { part = d .part; bp = b; srwd = w; latch = d .latch; mode = d .mode; program = d .program; «sector_erase» = d .«sector_erase»; «bulk_erase» = d .«bulk_erase»; «write_status» = d .«write_status» }
+
+-- the all-zero record
+unfoldable pub zeroRecord : Device
+zeroRecord = record { part = 0; bp = 0; srwd = false; latch = false; mode = Standby; program = 0; «sector_erase» = 0; «bulk_erase» = 0; «write_status» = 0 }
+
+-- the record as delivered: BP 0, SRWD 0, latch reset, standby, the given durations
+unfoldable pub delivered : ℕ → ℕ → ℕ → ℕ → ℕ → Device
+delivered p program sector bulk status = record { part = p; bp = 0; srwd = false; latch = false; mode = Standby; program = program; «sector_erase» = sector; «bulk_erase» = bulk; «write_status» = status }
+
+-- busy with t ticks left
+unfoldable pub running : Device → ℕ → Device
+running d t = moded d (latchAt t) (Busy t)
+
+-- waiting in a mode: fewer ticks than are left fall off, more end the cycle, and without a cycle nothing changes
+abbrev pub waitedIn : Mode → Device → ℕ → Device
+waitedIn Standby d t = d
+waitedIn (Busy left) d t = cond (ltb t left) (running d (left - t)) (moded d false Standby)
+waitedIn Deep d t = d
+
+-- t ticks later
+unfoldable pub waited : Device → ℕ → Device
+waited d t = waitedIn (d .mode) d t
+
+-- after power-up: standby, latch reset, all else kept
+unfoldable pub poweredUp : Device → Device
+poweredUp d = moded d false Standby
+
+-- whether two bools are equal
+abbrev pub bothSame : Bool → Bool → Bool
+bothSame a b = cond a b (not b)
+
+-- whether a duration or a number of ticks left is 1 to 1,000,000
+abbrev pub rangedOf : ℕ → Bool
+rangedOf x = leb 1 x && leb x 1000000
+
+-- a busy record has ticks left in range and the latch that belongs to them; only a part that sleeps is in deep power-down
+abbrev pub modeSound : Mode → Bool → Bool → Bool
+modeSound Standby latch sleeps = true
+modeSound (Busy left) latch sleeps = rangedOf left && bothSame latch (latchAt left)
+modeSound Deep latch sleeps = sleeps
+
+-- whether a record is sound
+unfoldable pub sound : Device → Bool
+sound d =
+    knownPart (d .part)
+    && leb (d .bp) (figuresOf (d .part) .«highest_bp»)
+    && rangedOf (d .program)
+    && rangedOf (d .«sector_erase»)
+    && rangedOf (d .«bulk_erase»)
+    && rangedOf (d .«write_status»)
+    && modeSound (d .mode) (d .latch) (figuresOf (d .part) .sleeps)
+
+-- bit 0 of the status byte
+abbrev pub busyBit : Mode → ℕ
+busyBit Standby = 0
+busyBit (Busy left) = 1
+busyBit Deep = 0
+
+-- the status byte: bit 7 SRWD, bits 4 to 2 BP (its three lowest bits, if it had more), bit 1 the latch, bit 0 set while busy
+unfoldable pub statusByte : Device → ℕ
+statusByte d = cond (d .srwd) 128 0 + 4 * (d .bp % 8) + cond (d .latch) 2 0 + busyBit (d .mode)
+
+-- only an answer of 0 changes anything
+abbrev pub onZero : {A : Type 0} → ℕ → A → A → A
+onZero zero next kept = next
+onZero (suc k) next kept = kept
+
+-- 6 where the record is not sound, else 0
+unfoldable pub soundAnswer : Device → ℕ
+soundAnswer d = cond (sound d) 0 6
+
+-- waiting t ticks
+unfoldable pub waitCall : Device → ℕ → Checked
+waitCall d t = record { answer = soundAnswer d; device = onZero (soundAnswer d) (waited d t) d }
+
+-- power-up
+unfoldable pub powerUpCall : Device → Checked
+powerUpCall d = record { answer = soundAnswer d; device = onZero (soundAnswer d) (poweredUp d) d }

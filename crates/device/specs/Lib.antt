@@ -1,0 +1,3 @@
+-- The device record and its packing.
+pub mod Device
+pub mod Packing

@@ -1,0 +1,271 @@
+// The device record: its changes, when it is sound, and its status byte.
+ghost use mathlib.Core.Path.{_≡_};
+ghost use Rattle.device.specs.Device.{latchAt, moded, latched, settled, running, waited, poweredUp, zeroRecord, delivered, bothSame, rangedOf, modeSound, sound, busyBit, statusByte, waitCall, powerUpCall};
+
+// The 28 bytes that a record is packed in.
+pub mod packing;
+
+// What the chip is doing: nothing, a cycle with so many ticks left, or deep power-down.
+pub enum Mode {
+    Standby,
+    Busy(u32),
+    Deep,
+}
+
+// A chip between two transactions. The last four are how many ticks each kind of cycle takes.
+pub struct Device {
+    pub part: u8,
+    pub bp: u8,
+    pub srwd: bool,
+    pub latch: bool,
+    pub mode: Mode,
+    pub program: u32,
+    pub sector_erase: u32,
+    pub bulk_erase: u32,
+    pub write_status: u32,
+}
+
+// The answer of a call that checks its record, and the record handed back.
+pub struct Checked {
+    pub answer: u8,
+    pub device: Device,
+}
+
+// The latch with `t` ticks left.
+fn latch_at(t: u32) -> bool
+    ensures { λ r. ⌜ r ≡ latchAt t ⌝ }
+{
+    true
+}
+
+// Whether two bools are equal.
+fn same(a: bool, b: bool) -> bool
+    ensures { λ r. ⌜ r ≡ bothSame a b ⌝ }
+{
+    if a { b } else { !b }
+}
+
+// Whether a duration or a number of ticks left is 1 to 1,000,000.
+pub fn ranged(x: u32) -> bool
+    ensures { λ r. ⌜ r ≡ rangedOf x ⌝ }
+{
+    (1 <= x) & (x <= 1_000_000)
+}
+
+// Whether a mode is sound with this latch, on a part that sleeps or not.
+fn mode_sound(mode: Mode, latch: bool, sleeps: bool) -> bool
+    ensures { λ r. ⌜ r ≡ modeSound mode latch sleeps ⌝ }
+{
+    match mode {
+        Mode::Standby => true,
+        Mode::Busy(left) => ranged(left) & same(latch, latch_at(left)),
+        Mode::Deep => sleeps,
+    }
+}
+
+// Bit 0 of the status byte.
+fn busy_bit(mode: Mode) -> u8
+    ensures { λ r. ⌜ r ≡ busyBit mode ⌝ }
+{
+    match mode {
+        Mode::Standby => 0,
+        Mode::Busy(_) => 1,
+        Mode::Deep => 0,
+    }
+}
+
+impl Device {
+    // Another latch and mode.
+    pub fn moded(self, latch: bool, mode: Mode) -> Self
+        ensures { λ r. ⌜ r ≡ moded self latch mode ⌝ }
+    {
+        Device {
+            part: self.part,
+            bp: self.bp,
+            srwd: self.srwd,
+            latch,
+            mode,
+            program: self.program,
+            sector_erase: self.sector_erase,
+            bulk_erase: self.bulk_erase,
+            write_status: self.write_status,
+        }
+    }
+
+    // Another latch.
+    pub fn latched(self, on: bool) -> Self
+        ensures { λ r. ⌜ r ≡ latched self on ⌝ }
+    {
+        let mode = self.mode;
+        Device {
+            part: self.part,
+            bp: self.bp,
+            srwd: self.srwd,
+            latch: on,
+            mode,
+            program: self.program,
+            sector_erase: self.sector_erase,
+            bulk_erase: self.bulk_erase,
+            write_status: self.write_status,
+        }
+    }
+
+    // Other settings.
+    pub fn settled(self, srwd: bool, bp: u8) -> Self
+        ensures { λ r. ⌜ r ≡ settled self srwd bp ⌝ }
+    {
+        let mode = self.mode;
+        Device {
+            part: self.part,
+            bp,
+            srwd,
+            latch: self.latch,
+            mode,
+            program: self.program,
+            sector_erase: self.sector_erase,
+            bulk_erase: self.bulk_erase,
+            write_status: self.write_status,
+        }
+    }
+
+    // Busy with `t` ticks left.
+    pub fn running(self, t: u32) -> Self
+        ensures { λ r. ⌜ r ≡ running self t ⌝ }
+    {
+        self.moded(latch_at(t), Mode::Busy(t))
+    }
+
+    // `t` ticks later.
+    pub fn waited(self, t: u32) -> Self
+        ensures { λ r. ⌜ r ≡ waited self t ⌝ }
+    {
+        let mode = self.mode;
+        match mode {
+            Mode::Standby => self,
+            Mode::Busy(left) => {
+                if t < left {
+                    self.running(left - t)
+                } else {
+                    self.moded(false, Mode::Standby)
+                }
+            }
+            Mode::Deep => self,
+        }
+    }
+
+    // After power-up.
+    pub fn powered_up(self) -> Self
+        ensures { λ r. ⌜ r ≡ poweredUp self ⌝ }
+    {
+        let standby = Mode::Standby;
+        self.moded(false, standby)
+    }
+
+    // The all-zero record, which is not sound.
+    pub fn zero() -> Self
+        ensures { λ r. ⌜ r ≡ zeroRecord ⌝ }
+    {
+        Device {
+            part: 0,
+            bp: 0,
+            srwd: false,
+            latch: false,
+            mode: Mode::Standby,
+            program: 0,
+            sector_erase: 0,
+            bulk_erase: 0,
+            write_status: 0,
+        }
+    }
+
+    // The record as delivered.
+    pub fn delivered(
+        part: u8,
+        program: u32,
+        sector_erase: u32,
+        bulk_erase: u32,
+        write_status: u32,
+    ) -> Self
+        ensures { λ r. ⌜ r ≡ delivered part program «sector_erase» «bulk_erase» «write_status» ⌝ }
+    {
+        Device {
+            part,
+            bp: 0,
+            srwd: false,
+            latch: false,
+            mode: Mode::Standby,
+            program,
+            sector_erase,
+            bulk_erase,
+            write_status,
+        }
+    }
+
+    // Whether the record is sound.
+    pub fn sound(self) -> bool
+        ensures { λ r. ⌜ r ≡ sound self ⌝ }
+    {
+        let known = parts::known(self.part);
+        let figures = parts::Figures::of(self.part);
+        let program = ranged(self.program);
+        let sector_erase = ranged(self.sector_erase);
+        let bulk_erase = ranged(self.bulk_erase);
+        let write_status = ranged(self.write_status);
+        let mode = self.mode;
+        let fits = mode_sound(mode, self.latch, figures.sleeps);
+        known
+            & (self.bp <= figures.highest_bp)
+            & program
+            & sector_erase
+            & bulk_erase
+            & write_status
+            & fits
+    }
+
+    // The status byte: bit 7 SRWD, bits 4 to 2 BP, bit 1 the latch, bit 0 set while busy.
+    pub fn status(self) -> u8
+        ensures { λ r. ⌜ r ≡ statusByte self ⌝ }
+    {
+        let srwd = slices::when(self.srwd, 128, 0);
+        let latch = slices::when(self.latch, 2, 0);
+        let mode = self.mode;
+        let busy = busy_bit(mode);
+        srwd + 4 * (self.bp % 8) + latch + busy
+    }
+
+    // Waits `t` ticks: 0 and the record afterwards, or 6 and the record as it came where it is not sound.
+    pub fn wait(self, t: u32) -> Checked
+        ensures { λ r. ⌜ r ≡ waitCall self t ⌝ }
+    {
+        if self.sound() {
+            let next = self.waited(t);
+            Checked {
+                answer: 0,
+                device: next,
+            }
+        } else {
+            Checked {
+                answer: 6,
+                device: self,
+            }
+        }
+    }
+
+    // Powers up: 0 and the record afterwards, or 6 and the record as it came where it is not sound.
+    pub fn power_up(self) -> Checked
+        ensures { λ r. ⌜ r ≡ powerUpCall self ⌝ }
+    {
+        if self.sound() {
+            let next = self.powered_up();
+            Checked {
+                answer: 0,
+                device: next,
+            }
+        } else {
+            Checked {
+                answer: 6,
+                device: self,
+            }
+        }
+    }
+}

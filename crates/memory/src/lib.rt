@@ -1,0 +1,90 @@
+// The memory of a part: the page latch, programming, erasing, reading. Every function is total: a byte that is not there is not changed.
+ghost use mathlib.Core.Path.{_≡_};
+ghost use Prim.Native.Nat.{_≤_};
+ghost use lib.ListN.{length};
+ghost use Rattle.slices.specs.Changed.{mapAt, put};
+ghost use Rattle.memory.specs.Memory.{blank, latched, anded, programmed, erased, rolled};
+
+// A latch after the data: byte k in slot (address + k) mod 256, a later byte in place of an earlier.
+fn fill_slots(latch: [u8; 256], bytes: &[u8], address: u32) -> [u8; 256]
+    ensures { λ r. ⌜ r ≡ latched latch address (now (bytes .entry)) ⌝ }
+{
+    let mut slots = latch;
+    let first = address as usize;
+    let mut i = 0;
+    while i < bytes.len() {
+        slots[(first + i) % 256] = bytes[i];
+        i += 1;
+    }
+    slots
+}
+
+// The page latch, all FF at first, after the data.
+pub fn page_latch(bytes: &[u8], address: u32) -> [u8; 256]
+    ensures { λ r. ⌜ r ≡ latched blank address (now (bytes .entry)) ⌝ }
+{
+    fill_slots([0xFF; 256], bytes, address)
+}
+
+// Each byte of a page, or of what there is of it, and its slot.
+fn and_page(page: &mut [u8], slots: [u8; 256])
+    requires { ⌜ length (now page) ≤ 256 ⌝ }
+    ensures { λ _. ⌜ now (page .exit) ≡ mapAt (anded slots) (now (page .entry)) ⌝ }
+{
+    let mut i = 0;
+    while i < page.len() {
+        page[i] = page[i] & slots[i];
+        i += 1;
+    }
+}
+
+// Programs the page of an address.
+pub fn program_page(array: &mut [u8], address: usize, slots: [u8; 256])
+    ensures { λ _. ⌜ now (array .exit) ≡ mapAt (programmed address slots) (now (array .entry)) ⌝ }
+{
+    let from = slices::least(address / 256 * 256, array.len());
+    let room = array.len() - from;
+    let n = slices::least(256, room);
+    let to = from + n;
+    and_page(&mut array[from..to], slots);
+}
+
+// The whole array becomes FF.
+pub fn erase_all(array: &mut [u8])
+    ensures { λ _. ⌜ now (array .exit) ≡ mapAt (put 255) (now (array .entry)) ⌝ }
+{
+    slices::fill(array, 0xFF);
+}
+
+// The sector of `size` bytes that an address lies in becomes FF; with no size, the whole array is one sector.
+pub fn erase_sector(array: &mut [u8], size: usize, address: usize)
+    ensures { λ _. ⌜ now (array .exit) ≡ mapAt (erased size address) (now (array .entry)) ⌝ }
+{
+    if size == 0 {
+        erase_all(array);
+    } else {
+        slices::fill_part(array, address / size * size, size, 0xFF);
+    }
+}
+
+// `out` becomes the bytes from an address on, in straight runs: from the last byte on to byte 0.
+pub fn read_rolling(array: &[u8], address: usize, out: &mut [u8])
+    ensures { λ _. ⌜ now (out .exit) ≡ mapAt (rolled (now (array .entry)) address) (now (out .entry)) ⌝ }
+{
+    if array.len() == 0 {
+        slices::fill(out, 0xFF);
+        return;
+    }
+    let mut at = address % array.len();
+    let mut done = 0;
+    while done < out.len() {
+        let left = out.len() - done;
+        let room = array.len() - at;
+        let run = slices::least(left, room);
+        let end = at + run;
+        let next = done + run;
+        slices::copy(&mut out[done..next], &array[at..end]);
+        at = end % array.len();
+        done = next;
+    }
+}

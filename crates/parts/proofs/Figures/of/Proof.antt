@@ -1,0 +1,59 @@
+-- `parts::Figures::of` meets its contract. Assumes nothing.
+use borrow.Author.Tests.{ne-eqb}
+use mathlib.Core.Path.{_∙_}
+use Rattle.parts.specs.Parts.{figuresOf}
+use borrow.Author.Needs.{needs}
+use Rattle.parts.proofs.Figures.of.Statement.{statement}
+use Rattle.parts.proofs.Figures.of.Tie as tie
+
+figures-requires : tie.Need-figures-requires
+figures-requires c κs = search needs
+
+figures-requires-2 : tie.Need-figures-requires-2
+figures-requires-2 c κs = search needs
+
+figures-requires-3 : tie.Need-figures-requires-3
+figures-requires-3 c κs = search needs
+
+figures-requires-4 : tie.Need-figures-requires-4
+figures-requires-4 c κs = search needs
+
+figures-requires-5 : tie.Need-figures-requires-5
+figures-requires-5 c κs = search needs
+
+returns : tie.Need-returns
+unfolding figuresOf
+returns c = c .figures .ensures ∙ rw (c .before .match .keys1)
+
+returns-2 : tie.Need-returns-2
+unfolding figuresOf
+returns-2 c = c .figures2 .ensures ∙ rw (c .before .match .keys2)
+
+returns-3 : tie.Need-returns-3
+unfolding figuresOf
+returns-3 c = c .figures3 .ensures ∙ rw (c .before .match .keys3)
+
+returns-4 : tie.Need-returns-4
+unfolding figuresOf
+returns-4 c = c .figures4 .ensures ∙ rw (c .before .match .keys4)
+
+returns-5 : tie.Need-returns-5
+unfolding figuresOf
+returns-5 c = let r = c .before .match .rest in
+    c .figures5 .ensures
+    ∙ rw (ne-eqb _ _ (r .0 .0 .0 .1), ne-eqb _ _ (r .0 .0 .1), ne-eqb _ _ (r .0 .1), ne-eqb _ _ (r .1))
+
+pub of-spec : {M : Type 1} → statement M
+of-spec =
+    tie.close
+    (tie.spec
+    figures-requires
+    figures-requires-2
+    figures-requires-3
+    figures-requires-4
+    figures-requires-5
+    returns
+    returns-2
+    returns-3
+    returns-4
+    returns-5)

@@ -1,0 +1,2 @@
+-- What holds of every part.
+pub mod Laws

@@ -1,0 +1,3 @@
+-- The parts' figures and the protected sectors.
+pub mod Parts
+pub mod Protected

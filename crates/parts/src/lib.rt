@@ -1,0 +1,256 @@
+// The five parts, each a type whose constants are its figures, and how many sectors BP protects.
+ghost use mathlib.Core.Path.{_≡_};
+ghost use Rattle.parts.specs.Parts.{bench, m25p10a, m25p40, m25p32, m25p128, figuresOf, knownPart};
+ghost use Rattle.parts.specs.Protected.{protectedOf};
+
+// Part 0, for programs that run in small buffers.
+pub struct Bench;
+
+// Part 1.
+pub struct M25p10a;
+
+// Part 2.
+pub struct M25p40;
+
+// Part 3.
+pub struct M25p32;
+
+// Part 4. It has no deep power-down and no signature: SIGNATURE is 0 and never driven.
+pub struct M25p128;
+
+// A part's figures as one value. `sleeps` says whether deep power-down and its release, B9 and AB, exist.
+pub struct Figures {
+    pub bytes: usize,
+    pub sectors: usize,
+    pub sector_bytes: usize,
+    pub maker: u8,
+    pub memory_type: u8,
+    pub capacity: u8,
+    pub signature: u8,
+    pub sleeps: bool,
+    pub highest_bp: u8,
+}
+
+impl Bench {
+    pub const BYTES: usize = 4_096;
+
+    pub const SECTORS: usize = 4;
+
+    pub const SECTOR_BYTES: usize = 1_024;
+
+    pub const MAKER: u8 = 0x00;
+
+    pub const MEMORY_TYPE: u8 = 0x00;
+
+    pub const CAPACITY: u8 = 0x0C;
+
+    pub const SIGNATURE: u8 = 0x0B;
+
+    pub const SLEEPS: bool = true;
+
+    pub const HIGHEST_BP: u8 = 3;
+
+    // The figures as one value.
+    pub fn figures() -> Figures
+        ensures { λ r. ⌜ r ≡ bench ⌝ }
+    {
+        Figures {
+            bytes: Self::BYTES,
+            sectors: Self::SECTORS,
+            sector_bytes: Self::SECTOR_BYTES,
+            maker: Self::MAKER,
+            memory_type: Self::MEMORY_TYPE,
+            capacity: Self::CAPACITY,
+            signature: Self::SIGNATURE,
+            sleeps: Self::SLEEPS,
+            highest_bp: Self::HIGHEST_BP,
+        }
+    }
+}
+
+impl M25p10a {
+    pub const BYTES: usize = 131_072;
+
+    pub const SECTORS: usize = 4;
+
+    pub const SECTOR_BYTES: usize = 32_768;
+
+    pub const MAKER: u8 = 0x20;
+
+    pub const MEMORY_TYPE: u8 = 0x20;
+
+    pub const CAPACITY: u8 = 0x11;
+
+    pub const SIGNATURE: u8 = 0x10;
+
+    pub const SLEEPS: bool = true;
+
+    pub const HIGHEST_BP: u8 = 3;
+
+    // The figures as one value.
+    pub fn figures() -> Figures
+        ensures { λ r. ⌜ r ≡ m25p10a ⌝ }
+    {
+        Figures {
+            bytes: Self::BYTES,
+            sectors: Self::SECTORS,
+            sector_bytes: Self::SECTOR_BYTES,
+            maker: Self::MAKER,
+            memory_type: Self::MEMORY_TYPE,
+            capacity: Self::CAPACITY,
+            signature: Self::SIGNATURE,
+            sleeps: Self::SLEEPS,
+            highest_bp: Self::HIGHEST_BP,
+        }
+    }
+}
+
+impl M25p40 {
+    pub const BYTES: usize = 524_288;
+
+    pub const SECTORS: usize = 8;
+
+    pub const SECTOR_BYTES: usize = 65_536;
+
+    pub const MAKER: u8 = 0x20;
+
+    pub const MEMORY_TYPE: u8 = 0x20;
+
+    pub const CAPACITY: u8 = 0x13;
+
+    pub const SIGNATURE: u8 = 0x12;
+
+    pub const SLEEPS: bool = true;
+
+    pub const HIGHEST_BP: u8 = 7;
+
+    // The figures as one value.
+    pub fn figures() -> Figures
+        ensures { λ r. ⌜ r ≡ m25p40 ⌝ }
+    {
+        Figures {
+            bytes: Self::BYTES,
+            sectors: Self::SECTORS,
+            sector_bytes: Self::SECTOR_BYTES,
+            maker: Self::MAKER,
+            memory_type: Self::MEMORY_TYPE,
+            capacity: Self::CAPACITY,
+            signature: Self::SIGNATURE,
+            sleeps: Self::SLEEPS,
+            highest_bp: Self::HIGHEST_BP,
+        }
+    }
+}
+
+impl M25p32 {
+    pub const BYTES: usize = 4_194_304;
+
+    pub const SECTORS: usize = 64;
+
+    pub const SECTOR_BYTES: usize = 65_536;
+
+    pub const MAKER: u8 = 0x20;
+
+    pub const MEMORY_TYPE: u8 = 0x20;
+
+    pub const CAPACITY: u8 = 0x16;
+
+    pub const SIGNATURE: u8 = 0x15;
+
+    pub const SLEEPS: bool = true;
+
+    pub const HIGHEST_BP: u8 = 7;
+
+    // The figures as one value.
+    pub fn figures() -> Figures
+        ensures { λ r. ⌜ r ≡ m25p32 ⌝ }
+    {
+        Figures {
+            bytes: Self::BYTES,
+            sectors: Self::SECTORS,
+            sector_bytes: Self::SECTOR_BYTES,
+            maker: Self::MAKER,
+            memory_type: Self::MEMORY_TYPE,
+            capacity: Self::CAPACITY,
+            signature: Self::SIGNATURE,
+            sleeps: Self::SLEEPS,
+            highest_bp: Self::HIGHEST_BP,
+        }
+    }
+}
+
+impl M25p128 {
+    pub const BYTES: usize = 16_777_216;
+
+    pub const SECTORS: usize = 64;
+
+    pub const SECTOR_BYTES: usize = 262_144;
+
+    pub const MAKER: u8 = 0x20;
+
+    pub const MEMORY_TYPE: u8 = 0x20;
+
+    pub const CAPACITY: u8 = 0x18;
+
+    pub const SIGNATURE: u8 = 0x00;
+
+    pub const SLEEPS: bool = false;
+
+    pub const HIGHEST_BP: u8 = 7;
+
+    // The figures as one value.
+    pub fn figures() -> Figures
+        ensures { λ r. ⌜ r ≡ m25p128 ⌝ }
+    {
+        Figures {
+            bytes: Self::BYTES,
+            sectors: Self::SECTORS,
+            sector_bytes: Self::SECTOR_BYTES,
+            maker: Self::MAKER,
+            memory_type: Self::MEMORY_TYPE,
+            capacity: Self::CAPACITY,
+            signature: Self::SIGNATURE,
+            sleeps: Self::SLEEPS,
+            highest_bp: Self::HIGHEST_BP,
+        }
+    }
+}
+
+impl Figures {
+    // The figures of a part by its number. A number that is no part's has the bench part's figures.
+    pub fn of(part: u8) -> Self
+        ensures { λ r. ⌜ r ≡ figuresOf part ⌝ }
+    {
+        match part {
+            1 => M25p10a::figures(),
+            2 => M25p40::figures(),
+            3 => M25p32::figures(),
+            4 => M25p128::figures(),
+            _ => Bench::figures(),
+        }
+    }
+}
+
+// Whether a number is a part's.
+pub fn known(part: u8) -> bool
+    ensures { λ r. ⌜ r ≡ knownPart part ⌝ }
+{
+    part <= 4
+}
+
+// How many of the highest sectors are protected.
+pub fn protected(sectors: usize, bp: u8) -> usize
+    ensures { λ r. ⌜ r ≡ protectedOf sectors bp ⌝ }
+{
+    match bp {
+        0 => 0,
+        1 => slices::least(sectors, 1),
+        2 => slices::least(sectors, 2),
+        3 => slices::least(sectors, 4),
+        4 => slices::least(sectors, 8),
+        5 => slices::least(sectors, 16),
+        6 => slices::least(sectors, 32),
+        7 => slices::least(sectors, 64),
+        _ => sectors,
+    }
+}
