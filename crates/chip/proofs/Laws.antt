@@ -1,0 +1,156 @@
+-- What the steps of the code give: the data, the line, the bounds of first and count, and the promise.
+-- Assumes nothing.
+use mathlib.Core.Path.{_≡_, refl, sym, ap, _∙_}
+use mathlib.Core.Bool.{Bool, true, false, cond}
+use mathlib.Core.List.{List, [], _∷_}
+use mathlib.Core.Logic.{_⊎_, inl, inr}
+use Prim.Native.Nat.{ℕ, zero, suc, _+_, _-_, _%_, _≤_, _<_, min}
+use native.Mathlib.Nat.{le-refl, le-of-lt, zero-add, mod-eq-of-lt}
+use native.Mathlib.Omega.{arith}
+use borrow.Author.Tests.{lt-ltb, le-ltb, lt-leb, leb-true, leb-false}
+use lib.Dec.{eqb, leb, ltb}
+use lib.ListN.{length, getD, take, drop, length-drop, drop-of-length-le}
+use lib.Seq.{take-all}
+use Rattle.slices.specs.Changed.{mapAt, window, put, sumFrom, sumAt}
+use Rattle.slices.proofs.Maps.{map-agree}
+use Rattle.slices.proofs.Windows.{window-more, window-rest, window-ext}
+use Rattle.parts.specs.declared.Figures.{Figures}
+use Rattle.parts.specs.Parts.{figuresOf, knownPart}
+use Rattle.device.specs.declared.Device.{Device}
+use Rattle.device.specs.Device.{statusByte, zeroRecord, delivered}
+use Rattle.device.specs.declared.Checked.{Checked}
+use Rattle.chip.specs.declared.table.Row.{Row}
+use Rattle.chip.specs.declared.answers.Verdict.{Verdict}
+use Rattle.chip.specs.declared.Answer.{Answer}
+use Rattle.chip.specs.Table.{addressOf}
+use Rattle.chip.specs.Answers.{verdictOf, deliveryAnswer}
+use Rattle.chip.specs.Line.{Driven, silent, drives, onLine, kth, heardRow, driven, lined, driving, drivingAt, firstFrom, firstOf, countOf}
+use Rattle.chip.specs.Outcome.{Outcome, outcomeOf, transacted, Meets, Transacted, Delivered, recordBy, arrayBy}
+use Rattle.chip.proofs.Lines.{driven-from, driven-before}
+
+le-or-le : (m n : ℕ) (b : Bool) → leb m n ≡ b → (m ≤ n) ⊎ (n ≤ m)
+le-or-le m n true e = inl (leb-true m n e)
+le-or-le m n false e = inr (le-of-lt (leb-false m n e))
+
+-- the data, lent as `&sent[from..]`
+pub tail-is : (sent : List ℕ) (from : ℕ) → from ≡ min 4 (length sent) → take (length sent - from) (drop from sent) ≡ drop 4 sent
+tail-is sent from e =
+    let k : length (drop from sent) ≤ length sent - from = simp length-drop (le-refl _) in
+    take-all (length sent - from) (drop from sent) k ∙ same (le-or-le 4 (length sent) (leb 4 (length sent)) refl)
+  where
+    same : (4 ≤ length sent) ⊎ (length sent ≤ 4) → drop from sent ≡ drop 4 sent
+    same (inl h) = let z : from ≡ 4 = omega arith in rw z
+    same (inr h) = let z : length sent ≤ from = omega arith in drop-of-length-le sent z ∙ sym (drop-of-length-le sent h)
+
+module _ (d : Device) (array sent : List ℕ) where
+  -- the code's two steps give the line
+  pub line-is : (resp : List ℕ) {resp₁ : List ℕ} (r : Row) (f : Figures) (status at n start : ℕ) → r ≡ heardRow d sent → f ≡ figuresOf (d .part) → status ≡ statusByte d → at ≡ addressOf f sent
+      → n ≡ min (length sent) (length resp) → start ≡ min (r .from) n → resp₁ ≡ mapAt (window 0 (0 + start) (put 255)) resp
+      → mapAt (window start n (λ i x. onLine (kth (r .drive) f status array at (i - start)))) resp₁ ≡ mapAt (lined d array sent) resp
+  unfolding lined
+  line-is resp {resp₁} r f status at n start er ef et ea en es e =
+      window-more start n (lined d array sent) _ resp front (omega arith) byte ∙ window-rest n (lined d array sent) resp (λ i h lt. let k : length sent ≤ i = omega arith in rw (le-ltb i (length sent) k))
+    where
+      silent-at : (i x : ℕ) → i < start → 255 ≡ lined d array sent i x
+      silent-at i x h =
+          let k : i < length sent = omega arith in
+          let m : i < r .from = omega arith in
+          rw (lt-ltb i (length sent) k, driven-before d array sent i (omega arith) (rw (← er) m))
+
+      front : resp₁ ≡ mapAt (window 0 start (lined d array sent)) resp
+      front = e ∙ (rw zero-add (map-agree _ _ resp (λ i lt. window-ext 0 start (put 255) (lined d array sent) i (getD resp i 0) (λ h k. silent-at i (getD resp i 0) k))))
+
+      byte : (i x : ℕ) → start ≤ i → i < n → onLine (kth (r .drive) f status array at (i - start)) ≡ lined d array sent i x
+      byte i x h l =
+          let k : i < length sent = omega arith in
+          let s : start ≡ r .from = omega arith in
+          let m : r .from ≤ i = omega arith in
+          rw (lt-ltb i (length sent) k, driven-from d array sent i (omega arith) (rw (← er) m), s, ea, er, ef, et)
+
+-- ---- first and count lie within the transaction
+
+first-within : (g : ℕ → ℕ) (k : ℕ) (xs : List ℕ) → firstFrom g k xs ≤ k + length xs
+first-within g k [] = omega arith
+first-within g k (x ∷ xs) = go (eqb (g k) 0) (first-within g (suc k) xs)
+  where
+    go : (b : Bool) → firstFrom g (suc k) xs ≤ suc k + length xs → cond b (firstFrom g (suc k) xs) k ≤ k + suc (length xs)
+    go true h = omega arith
+    go false h = omega arith
+
+driving-few : (x : Driven) → driving x ≤ 1
+driving-few silent = omega arith
+driving-few (drives b) = omega arith
+
+sum-within : (k : ℕ) (f : ℕ → ℕ → ℕ) (xs : List ℕ) → ((i x : ℕ) → f i x ≤ 1) → sumFrom k f xs ≤ length xs
+sum-within k f [] h = omega arith
+sum-within k f (x ∷ xs) h = omega (arith, h k x, sum-within (suc k) f xs h)
+
+pub first-le : (d : Device) (array sent : List ℕ) → firstOf d array sent ≤ length sent
+unfolding firstOf
+first-le d array sent = omega (arith, first-within (drivingAt d array sent) 0 sent)
+
+pub count-le : (d : Device) (array sent : List ℕ) → countOf d array sent ≤ length sent
+unfolding countOf sumAt drivingAt
+count-le d array sent = sum-within 0 (λ i x. drivingAt d array sent i) sent (λ i x. driving-few (driven d array (take i sent)))
+
+-- ---- the promise, by the verdict
+
+pub by-verdict : (d : Device) (array sent : List ℕ) (pulses : ℕ) (w : Bool) (response : List ℕ) (v : Verdict) → verdictOf d (length array) sent pulses w (length response) ≡ v
+    → {a : Answer} {next : Device} {array′ response′ : List ℕ} → Meets (outcomeOf v d array sent response) a next array′ response′
+    → Transacted d array sent pulses w response a next array′ response′
+unfolding transacted
+by-verdict d array sent pulses w response v e m = rw e m
+
+-- the promise admits one outcome only
+pub one-outcome : {o : Outcome} {a b : Answer} {next other : Device} {array′ array″ response′ response″ : List ℕ}
+    → Meets o a next array′ response′ → Meets o b other array″ response″ → (a ≡ b) × (next ≡ other) × (array′ ≡ array″) × (response′ ≡ response″)
+one-outcome s t = (s .answer ∙ sym (t .answer), s .device ∙ sym (t .device), s .memory ∙ sym (t .memory), s .line ∙ sym (t .line))
+
+-- ---- delivery
+
+-- so does a delivery's
+pub one-delivery : {part : ℕ} {array : List ℕ} {program sector bulk status : ℕ} {r s : Checked} {array′ array″ : List ℕ}
+    → Delivered part array program sector bulk status r array′ → Delivered part array program sector bulk status s array″ → (r ≡ s) × (array′ ≡ array″)
+one-delivery {r = r} {s = s} p q = (same (p .answer ∙ sym (q .answer)) (p .device ∙ sym (q .device)), p .memory ∙ sym (q .memory))
+  where
+    same : r .answer ≡ s .answer → r .device ≡ s .device → r ≡ s
+    same e f =
+        let x : _≡_ {A = Checked} (record { answer = r .answer; device = r .device }) (record { answer = s .answer; device = s .device }) = rw (e, f) in
+        x
+
+-- a part number above 255 is no part's
+pub large : (part array p s b t : ℕ) → 255 < part → deliveryAnswer part array p s b t ≡ 1
+unfolding deliveryAnswer
+large part array p s b t h = let k : 4 < part = omega arith in rw (lt-leb part 4 k)
+
+-- refused: the number, the all-zero record, the array as it was
+pub refused-delivery : (part : ℕ) (array : List ℕ) (p s b t k : ℕ) {r : Checked} → k ≡ deliveryAnswer part (length array) p s b t → (k ≡ 0 → ⊥) → r .answer ≡ k → r .device ≡ zeroRecord
+    → Delivered part array p s b t r array
+refused-delivery part array p s b t k e n a d = record { answer = a ∙ e; device = d ∙ by-record k n ∙ ap (λ (m : ℕ). recordBy m (delivered part p s b t)) e; memory = by-array k n ∙ ap (λ (m : ℕ). arrayBy m array) e }
+  where
+    by-record : (k : ℕ) → (k ≡ 0 → ⊥) → zeroRecord ≡ recordBy k (delivered part p s b t)
+    by-record zero n = absurd (n refl)
+    by-record (suc k) n = refl
+
+    by-array : (k : ℕ) → (k ≡ 0 → ⊥) → array ≡ arrayBy k array
+    by-array zero n = absurd (n refl)
+    by-array (suc k) n = refl
+
+-- executed: a part number of one byte, the record as delivered, the array all FF
+pub executed-delivery : (part : ℕ) (array array′ : List ℕ) (p s b t k : ℕ) {r : Checked} → k ≡ deliveryAnswer part (length array) p s b t → k ≡ 0 → r .answer ≡ 0 → r .device ≡ delivered part p s b t
+    → array′ ≡ mapAt (put 255) array → Delivered part array p s b t r array′
+executed-delivery part array array′ p s b t k e z a d m =
+    let q : deliveryAnswer part (length array) p s b t ≡ 0 = sym e ∙ z in
+    record { answer = a ∙ sym q; device = rw q d; memory = rw q m }
+
+-- a delivery that is executed names a part, whose number fits a byte
+pub small : (part array p s b t : ℕ) → deliveryAnswer part array p s b t ≡ 0 → part % 256 ≡ part
+unfolding deliveryAnswer
+small part array p s b t e = go (leb part 255) refl
+  where
+    no : _≡_ {A = ℕ} 1 0 → ⊥
+    no e = omega arith
+
+    go : (c : Bool) → leb part 255 ≡ c → part % 256 ≡ part
+    go true q = let k = leb-true part 255 q in mod-eq-of-lt (omega arith)
+    go false q = let k = leb-false part 255 q in absurd (no (sym (large part array p s b t k) ∙ e))

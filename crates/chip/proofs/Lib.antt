@@ -1,0 +1,7 @@
+-- Laws of the rules and of the code.
+pub mod Verdicts
+pub mod Lines
+pub mod Records
+pub mod Rules
+pub mod Worked
+pub mod Laws

@@ -1,0 +1,280 @@
+-- What holds of every transaction's outcome: what changes with answer 0 alone, what never changes, and which numbers there are.
+-- Assumes nothing.
+use mathlib.Core.Path.{_≡_, refl, sym, _∙_}
+use mathlib.Core.Bool.{Bool, true, false, cond, not, _&&_, _||_}
+use mathlib.Core.List.{List, [], _∷_}
+use Prim.Native.Nat.{ℕ, zero, suc, _+_, _-_, _/_, _%_, _≤_, _<_}
+use native.Mathlib.Omega.{arith}
+use borrow.Author.Tests.{le-ltb, ltb-true, ltb-false}
+use lib.Dec.{eqb, leb, ltb, lit<, lit≤}
+use lib.Bits.{and-le-l}
+use lib.ListN.{length, getD, take, List·getD-eq-default}
+use Rattle.slices.specs.Changed.{mapAt, window, put}
+use Rattle.slices.proofs.Maps.{length-map, getD-map, getD-any}
+use Rattle.slices.proofs.Windows.{window-in, window-above}
+use Rattle.memory.specs.Memory.{programmed, erased}
+use Rattle.parts.specs.declared.Figures.{Figures}
+use Rattle.parts.specs.Parts.{figuresOf}
+use Rattle.parts.proofs.Laws.{figures-ind}
+use Rattle.device.specs.declared.Mode.{Mode}
+use Rattle.device.specs.declared.Mode.the-variants.{Standby, Busy, Deep}
+use Rattle.device.specs.declared.Device.{Device}
+use Rattle.device.specs.Device.{sound, busyBit, statusByte}
+use Rattle.chip.specs.declared.table.Area.{Area}
+use Rattle.chip.specs.declared.table.Area.the-variants.{Nowhere, Page, Sector, All}
+use Rattle.chip.specs.declared.table.Turn.the-variants.{Keep}
+use Rattle.chip.specs.declared.table.Drive.{Drive}
+use Rattle.chip.specs.declared.table.Drive.the-variants.{Nothing, Identification, Status, Array, Signature}
+use Rattle.chip.specs.declared.table.Row.{Row}
+use Rattle.chip.specs.declared.answers.Verdict.{Verdict}
+use Rattle.chip.specs.declared.answers.Verdict.the-variants.{Refused, Ignored, Executed}
+use Rattle.chip.specs.Table.{addressOf}
+use Rattle.chip.specs.Answers.{refusal, isBusy, isDeep, writesSettings, guarded, asNeeded, ignorance, rowIn}
+use Rattle.chip.specs.Line.{Driven, onLine, kth, identification, byRow, heardRow, driven, lined}
+use Rattle.chip.specs.Change.{touchedIn, touched, cycleOf, turned}
+use Rattle.chip.specs.Outcome.{Outcome, outcomeOf, transacted}
+use Rattle.chip.proofs.Verdicts.{Host, Taken, Decision, refuses, ignores, executes, verdict-is, not-refused, not-ignored}
+use Rattle.slices.proofs.Choices.{cond-ind}
+use Rattle.chip.proofs.Records.{turn-law, turned-sound, SameMake, SameSettings, turned-make, turned-settings}
+
+-- ---- the numbers
+
+-- whether a number stands in a list
+abbrev pub listed : ℕ → List ℕ → Bool
+listed k [] = false
+listed k (x ∷ xs) = eqb k x || listed k xs
+
+-- the numbers that a transaction can answer
+abbrev pub numbers : List ℕ
+numbers = 0 ∷ 2 ∷ 3 ∷ 4 ∷ 5 ∷ 6 ∷ 11 ∷ 12 ∷ 13 ∷ 14 ∷ 15 ∷ 16 ∷ 17 ∷ 18 ∷ []
+
+-- a number of the host side is at most 8
+abbrev OfHost : ℕ → Type 0
+OfHost k = (listed k numbers ≡ true) × (k ≤ 8)
+
+host-number : (d : Device) (array n pulses response : ℕ) → OfHost (refusal d array n pulses response)
+unfolding refusal
+host-number d array n pulses response =
+    cond-ind OfHost (not (sound d)) (refl, lit≤ tt)
+    (cond-ind OfHost (not (eqb array (figuresOf (d .part) .bytes))) (refl, lit≤ tt)
+    (cond-ind OfHost (ltb 65536 n) (refl, lit≤ tt)
+    (cond-ind OfHost (ltb 7 pulses) (refl, lit≤ tt) (cond-ind OfHost (ltb response n) (refl, lit≤ tt) (refl, lit≤ tt)))))
+
+-- a number of the chip that is not 0 is at least 11
+abbrev OfChip : ℕ → Type 0
+OfChip k = (listed k numbers ≡ true) × ((k ≡ 0 → ⊥) → 11 ≤ k)
+
+chip-number : (d : Device) (r : Row) (n pulses : ℕ) (w : Bool) (at : ℕ) → OfChip (ignorance d r n pulses w at)
+unfolding ignorance
+chip-number d r n pulses w at =
+    cond-ind OfChip (eqb n 0) (refl, λ h. lit≤ tt)
+    (cond-ind OfChip (not (r .known)) (refl, λ h. lit≤ tt)
+    (cond-ind OfChip (isBusy (d .mode) && not (r .busy)) (refl, λ h. lit≤ tt)
+    (cond-ind OfChip (isDeep (d .mode) && not (r .deep)) (refl, λ h. lit≤ tt)
+    (cond-ind OfChip (not (asNeeded r n pulses)) (refl, λ h. lit≤ tt)
+    (cond-ind OfChip (r .latch && not (d .latch)) (refl, λ h. lit≤ tt)
+    (cond-ind OfChip (guarded (r .area) (figuresOf (d .part)) (d .bp) at) (refl, λ h. lit≤ tt)
+    (cond-ind OfChip (writesSettings (r .turn) && d .srwd && not w) (refl, λ h. lit≤ tt) (refl, λ h. absurd (h refl)))))))))
+
+-- ---- bytes
+
+-- every element is below 256
+abbrev pub Bytes : List ℕ → Type 0
+Bytes xs = (i : ℕ) → i < length xs → getD xs i 0 < 256
+
+map-bytes : (f : ℕ → ℕ → ℕ) (xs : List ℕ) → ((i x : ℕ) → x < 256 → f i x < 256) → Bytes xs → Bytes (mapAt f xs)
+map-bytes f xs h b i lt =
+    let k : i < length xs = rw (length-map f xs) at lt in
+    rw (getD-map f xs i 0 k) (h i (getD xs i 0) (b i k))
+
+touched-byte : (a : Area) (f : Figures) (at : ℕ) (slots : List ℕ) (i x : ℕ) → x < 256 → touchedIn a f at slots i x < 256
+unfolding programmed erased
+touched-byte Nowhere f at slots i x h = h
+touched-byte Page f at slots i x h = cond-ind (λ (y : ℕ). y < 256) (eqb (i / 256) (at / 256)) (omega (arith, and-le-l x (getD slots (i % 256) 0))) h
+touched-byte Sector f at slots i x h = cond-ind (λ (y : ℕ). y < 256) (eqb (i / f .«sector_bytes») (at / f .«sector_bytes»)) (lit< tt) h
+touched-byte All f at slots i x h = lit< tt
+
+-- a part's identification and signature are bytes
+pub record Figured (f : Figures) : Type 0 where
+  pub maker : f .maker < 256
+  pub «memory-type» : f .«memory_type» < 256
+  pub capacity : f .capacity < 256
+  pub signature : f .signature < 256
+
+figured : (p : ℕ) → Figured (figuresOf p)
+figured p =
+    figures-ind Figured
+    (record { maker = lit< tt; «memory-type» = lit< tt; capacity = lit< tt; signature = lit< tt })
+    (record { maker = lit< tt; «memory-type» = lit< tt; capacity = lit< tt; signature = lit< tt })
+    (record { maker = lit< tt; «memory-type» = lit< tt; capacity = lit< tt; signature = lit< tt })
+    (record { maker = lit< tt; «memory-type» = lit< tt; capacity = lit< tt; signature = lit< tt })
+    (record { maker = lit< tt; «memory-type» = lit< tt; capacity = lit< tt; signature = lit< tt })
+    p
+
+identification-byte : (f : Figures) (k : ℕ) → Figured f → identification f k < 256
+identification-byte f zero h = h .maker
+identification-byte f (suc zero) h = h .«memory-type»
+identification-byte f (suc (suc zero)) h = h .capacity
+identification-byte f (suc (suc (suc k))) h = lit< tt
+
+busy-few : (m : Mode) → busyBit m ≤ 1
+busy-few Standby = lit≤ tt
+busy-few (Busy t) = lit≤ tt
+busy-few Deep = lit≤ tt
+
+-- the status byte is a byte
+pub status-byte : (d : Device) → statusByte d < 256
+unfolding statusByte
+status-byte d =
+    let s : cond (d .srwd) 128 0 ≤ 128 = cond-ind (λ (n : ℕ). n ≤ 128) (d .srwd) (lit≤ tt) (lit≤ tt) in
+    let l : cond (d .latch) 2 0 ≤ 2 = cond-ind (λ (n : ℕ). n ≤ 2) (d .latch) (lit≤ tt) (lit≤ tt) in
+    omega (arith, busy-few (d .mode))
+
+getD-byte : (xs : List ℕ) (i : ℕ) → Bytes xs → getD xs i 255 < 256
+getD-byte xs i b = go (ltb i (length xs)) refl
+  where
+    go : (t : Bool) → ltb i (length xs) ≡ t → getD xs i 255 < 256
+    go true e = let k = ltb-true i (length xs) e in rw (getD-any xs i 255 0 k) (b i k)
+    go false e = rw (List·getD-eq-default xs 255 (ltb-false i (length xs) e)) (lit< tt)
+
+kth-byte : (dr : Drive) (f : Figures) (s : ℕ) (array : List ℕ) (at k : ℕ) → Figured f → s < 256 → Bytes array → onLine (kth dr f s array at k) < 256
+kth-byte Nothing f s array at k h l b = lit< tt
+kth-byte Identification f s array at k h l b = identification-byte f k h
+kth-byte Status f s array at k h l b = l
+kth-byte Array f s array at k h l b = getD-byte array ((at + k) % length array) b
+kth-byte Signature f s array at k h l b = h .signature
+
+-- what is driven is a byte
+pub driven-byte : (d : Device) (array before : List ℕ) → Bytes array → onLine (driven d array before) < 256
+unfolding driven byRow
+driven-byte d array before b =
+    cond-ind (λ (x : Driven). onLine x < 256) (leb (heardRow d before .from) (length before))
+    (kth-byte (heardRow d before .drive) (figuresOf (d .part)) (statusByte d) array (addressOf (figuresOf (d .part)) before) (length before - heardRow d before .from) (figured (d .part)) (status-byte d) b)
+    (lit< tt)
+
+-- ---- the outcome
+
+module _ (d : Device) (array sent : List ℕ) (pulses : ℕ) (w : Bool) (response : List ℕ) where
+  -- the outcome, the number of the host and the number of the chip
+  abbrev pub out : Outcome
+  out = transacted d array sent pulses w response
+
+  abbrev pub host : ℕ
+  host = refusal d (length array) (length sent) pulses (length response)
+
+  abbrev pub chip : ℕ
+  chip = ignorance d (rowIn d sent) (length sent) pulses w (addressOf (figuresOf (d .part)) sent)
+
+  -- what holds of each of the three outcomes holds of the outcome
+  pub outcome-ind : (P : Outcome → Type 0) → ((host ≡ 0 → ⊥) → P (outcomeOf (Refused host) d array sent response))
+      → (Host d (length array) (length sent) pulses (length response) → (chip ≡ 0 → ⊥) → P (outcomeOf (Ignored chip) d array sent response))
+      → (Host d (length array) (length sent) pulses (length response) → Taken d (rowIn d sent) (length sent) pulses w (addressOf (figuresOf (d .part)) sent) → P (outcomeOf Executed d array sent response))
+      → P out
+  unfolding transacted
+  outcome-ind P r i e = go (verdict-is d (length array) sent pulses w (length response))
+    where
+      go : {v : Verdict} → Decision host chip v → P (outcomeOf v d array sent response)
+      go (refuses a) = r a
+      go (ignores a b) = i (not-refused d (length array) (length sent) pulses (length response) a) b
+      go (executes a b) = e (not-refused d (length array) (length sent) pulses (length response) a) (not-ignored d (rowIn d sent) (length sent) pulses w (addressOf (figuresOf (d .part)) sent) b)
+
+  -- the answer is one of the numbers
+  pub number-is-listed : listed (out .answer .number) numbers ≡ true
+  unfolding outcomeOf
+  number-is-listed =
+      outcome-ind (λ (o : Outcome). listed (o .answer .number) numbers ≡ true)
+      (λ a. host-number d (length array) (length sent) pulses (length response) .0)
+      (λ h b. chip-number d (rowIn d sent) (length sent) pulses w (addressOf (figuresOf (d .part)) sent) .0) (λ h t. refl)
+
+  -- with any other answer than 0 the record and the array stay, and nothing is driven
+  pub only-zero-changes : (out .answer .number ≡ 0 → ⊥) → (out .device ≡ d) × (out .array ≡ array) × (out .answer .first ≡ 0) × (out .answer .count ≡ 0)
+  unfolding outcomeOf
+  only-zero-changes =
+      outcome-ind (λ (o : Outcome). (o .answer .number ≡ 0 → ⊥) → (o .device ≡ d) × (o .array ≡ array) × (o .answer .first ≡ 0) × (o .answer .count ≡ 0))
+      (λ a n. (refl, refl, refl, refl)) (λ h b n. (refl, refl, refl, refl)) (λ h t n. absurd (n refl))
+
+  -- with 1 to 8 the response stays too
+  pub host-leaves : (out .answer .number ≡ 0 → ⊥) → out .answer .number ≤ 8 → out .response ≡ response
+  unfolding outcomeOf
+  host-leaves =
+      outcome-ind (λ (o : Outcome). (o .answer .number ≡ 0 → ⊥) → o .answer .number ≤ 8 → o .response ≡ response)
+      (λ a n l. refl)
+      (λ h b n l. let k = chip-number d (rowIn d sent) (length sent) pulses w (addressOf (figuresOf (d .part)) sent) .1 b in absurd (omega arith))
+      (λ h t n l. absurd (n refl))
+
+  -- with 11 to 18 the first n response bytes are FF
+  pub chip-blanks : 11 ≤ out .answer .number → (i : ℕ) → i < length sent → getD (out .response) i 0 ≡ 255
+  unfolding outcomeOf
+  chip-blanks =
+      outcome-ind (λ (o : Outcome). 11 ≤ o .answer .number → (i : ℕ) → i < length sent → getD (o .response) i 0 ≡ 255)
+      (λ a l i lt. let k = host-number d (length array) (length sent) pulses (length response) .1 in absurd (omega arith))
+      (λ h b l i lt.
+      getD-map (window 0 (length sent) (put 255)) response i 0 (omega (arith, h .room))
+      ∙ window-in 0 (length sent) (put 255) i (getD response i 0) (omega arith) lt)
+      (λ h t l i lt. absurd (omega arith))
+
+  -- bytes from n on are untouched
+  pub rest-stays : (i : ℕ) → length sent ≤ i → getD (out .response) i 0 ≡ getD response i 0
+  unfolding outcomeOf lined
+  rest-stays i le =
+      outcome-ind (λ (o : Outcome). getD (o .response) i 0 ≡ getD response i 0) (λ a. refl)
+      (λ h b. beyond (window 0 (length sent) (put 255)) (λ x. window-above 0 (length sent) (put 255) i x le))
+      (λ h t. beyond (lined d array sent) (λ x. rw (le-ltb i (length sent) le)))
+    where
+      beyond : (f : ℕ → ℕ → ℕ) → ((x : ℕ) → f i x ≡ x) → getD (mapAt f response) i 0 ≡ getD response i 0
+      beyond f e = go (ltb i (length response)) refl
+        where
+          go : (b : Bool) → ltb i (length response) ≡ b → getD (mapAt f response) i 0 ≡ getD response i 0
+          go true q = getD-map f response i 0 (ltb-true i (length response) q) ∙ e (getD response i 0)
+          go false q =
+              let k = ltb-false i (length response) q in
+              let l : length (mapAt f response) ≤ i = rw (length-map f response) k in
+              List·getD-eq-default (mapAt f response) 0 l ∙ sym (List·getD-eq-default response 0 k)
+
+  -- the array keeps its length, and so does the response
+  pub array-length : length (out .array) ≡ length array
+  unfolding outcomeOf
+  array-length = outcome-ind (λ (o : Outcome). length (o .array) ≡ length array) (λ a. refl) (λ h b. refl) (λ h t. length-map _ array)
+
+  pub response-length : length (out .response) ≡ length response
+  unfolding outcomeOf
+  response-length = outcome-ind (λ (o : Outcome). length (o .response) ≡ length response) (λ a. refl) (λ h b. length-map _ response) (λ h t. length-map _ response)
+
+  -- bytes stay bytes
+  pub array-bytes : Bytes array → Bytes (out .array)
+  unfolding outcomeOf touched
+  array-bytes b =
+      let c = cycleOf (rowIn d sent .area) (addressOf (figuresOf (d .part)) sent) sent in
+      outcome-ind (λ (o : Outcome). Bytes (o .array)) (λ a. b) (λ h n. b)
+      (λ h t. map-bytes (touched (figuresOf (d .part)) c) array (λ i x l. touched-byte (c .area) (figuresOf (d .part)) (c .at) (c .slots) i x l) b)
+
+  pub response-bytes : Bytes array → Bytes response → Bytes (out .response)
+  unfolding outcomeOf lined window
+  response-bytes a b =
+      outcome-ind (λ (o : Outcome). Bytes (o .response)) (λ n. b)
+      (λ h n. map-bytes (window 0 (length sent) (put 255)) response (λ i x l. cond-ind (λ (y : ℕ). y < 256) (leb 0 i && ltb i (length sent)) (lit< tt) l) b)
+      (λ h t. map-bytes (lined d array sent) response (λ i x l. cond-ind (λ (y : ℕ). y < 256) (ltb i (length sent)) (driven-byte d array (take i sent) a) l) b)
+
+  -- a sound record stays sound
+  pub stays-sound : sound d ≡ true → sound (out .device) ≡ true
+  unfolding outcomeOf
+  stays-sound s =
+      outcome-ind (λ (o : Outcome). sound (o .device) ≡ true) (λ a. s) (λ h b. s)
+      (λ h t.
+      turned-sound (rowIn d sent .turn) d (getD sent 1 0) (getD sent 0 0) (rowIn d sent .busy) (turn-law (figuresOf (d .part)) (getD sent 0 0)) (t .busy) s)
+
+  -- only an executed WRSR changes BP or SRWD
+  pub settings-stay : (getD sent 0 0 ≡ 0x01 → out .answer .number ≡ 0 → ⊥) → SameSettings d (out .device)
+  unfolding outcomeOf
+  settings-stay =
+      outcome-ind (λ (o : Outcome). (getD sent 0 0 ≡ 0x01 → o .answer .number ≡ 0 → ⊥) → SameSettings d (o .device))
+      (λ a n. record { bp = refl; srwd = refl }) (λ h b n. record { bp = refl; srwd = refl })
+      (λ h t n.
+      turned-settings (rowIn d sent .turn) d (figuresOf (d .part)) (getD sent 1 0) (getD sent 0 0) (rowIn d sent .busy) (turn-law (figuresOf (d .part)) (getD sent 0 0)) (λ e. n e refl))
+
+  -- no call changes the part or a duration
+  pub make-stays : SameMake d (out .device)
+  unfolding outcomeOf turned
+  make-stays =
+      outcome-ind (λ (o : Outcome). SameMake d (o .device)) (λ a. turned-make Keep d 0) (λ h b. turned-make Keep d 0)
+      (λ h t. turned-make (rowIn d sent .turn) d (getD sent 1 0))

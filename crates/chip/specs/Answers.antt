@@ -1,0 +1,109 @@
+-- Document 01, 'Answer numbers': the first that applies is given. Lengths are handed over as numbers.
+use mathlib.Core.Bool.{Bool, true, false, cond, not, _&&_, _||_}
+use mathlib.Core.List.{List}
+use Prim.Native.Nat.{ℕ, _-_, _+_, _/_}
+use lib.Dec.{eqb, leb, ltb}
+use lib.ListN.{length, getD}
+use Rattle.parts.specs.declared.Figures.{Figures}
+use Rattle.parts.specs.Parts.{figuresOf, knownPart}
+use Rattle.parts.specs.Protected.{protectedOf}
+use Rattle.device.specs.declared.Mode.{Mode}
+use Rattle.device.specs.declared.Mode.the-variants.{Standby, Busy, Deep}
+use Rattle.device.specs.declared.Device.{Device}
+use Rattle.device.specs.Device.{sound, rangedOf}
+use Rattle.chip.specs.declared.table.Area.{Area}
+use Rattle.chip.specs.declared.table.Area.the-variants.{Nowhere, Page, Sector, All}
+use Rattle.chip.specs.declared.table.Turn.{Turn}
+use Rattle.chip.specs.declared.table.Turn.the-variants.{Keep, Enable, Disable, Settings, Program, EraseSector, EraseAll, Sleep, Wake}
+use Rattle.chip.specs.declared.table.Row.{Row}
+use Rattle.chip.specs.declared.answers.Verdict.{Verdict}
+use Rattle.chip.specs.declared.answers.Verdict.the-variants.{Refused, Ignored, Executed}
+use Rattle.chip.specs.Table.{rowOf, addressOf}
+
+-- ---- the host side
+
+-- delivery: 1, 2, 7, or 0
+unfoldable pub deliveryAnswer : ℕ → ℕ → ℕ → ℕ → ℕ → ℕ → ℕ
+deliveryAnswer part array program sector bulk status =
+    cond (not (knownPart part)) 1
+    (cond (not (eqb array (figuresOf part .bytes))) 2
+    (cond (not (rangedOf program && rangedOf sector && rangedOf bulk && rangedOf status)) 7
+    0))
+
+-- a transaction: 6, 2, 3, 4, 5, or 0
+unfoldable pub refusal : Device → ℕ → ℕ → ℕ → ℕ → ℕ
+refusal d array n pulses response =
+    cond (not (sound d)) 6
+    (cond (not (eqb array (figuresOf (d .part) .bytes))) 2
+    (cond (ltb 65536 n) 3
+    (cond (ltb 7 pulses) 4
+    (cond (ltb response n) 5
+    0))))
+
+-- ---- the chip
+
+abbrev pub isBusy : Mode → Bool
+isBusy Standby = false
+isBusy (Busy left) = true
+isBusy Deep = false
+
+abbrev pub isDeep : Mode → Bool
+isDeep Standby = false
+isDeep (Busy left) = false
+isDeep Deep = true
+
+-- WRSR, the row that writes the settings
+abbrev pub writesSettings : Turn → Bool
+writesSettings Keep = false
+writesSettings Enable = false
+writesSettings Disable = false
+writesSettings Settings = true
+writesSettings Program = false
+writesSettings EraseSector = false
+writesSettings EraseAll = false
+writesSettings Sleep = false
+writesSettings Wake = false
+
+-- whether the sector of an address is among the highest that BP protects
+unfoldable pub inProtected : Figures → ℕ → ℕ → Bool
+inProtected f bp at = leb (f .sectors - protectedOf (f .sectors) bp) (at / f .«sector_bytes»)
+
+-- PP or SE in a protected sector; BE with BP above 0
+abbrev pub guarded : Area → Figures → ℕ → ℕ → Bool
+guarded Nowhere f bp at = false
+guarded Page f bp at = inProtected f bp at
+guarded Sector f bp at = inProtected f bp at
+guarded All f bp at = ltb 0 bp
+
+-- whether n and the further pulses are as needed
+unfoldable pub asNeeded : Row → ℕ → ℕ → Bool
+asNeeded r n pulses = leb (r .least) n && leb n (r .most) && (not (r .still) || eqb pulses 0)
+
+-- the chip ignores: 11, 14, 12, 13, 15, 16, 17, 18, or 0
+unfoldable pub ignorance : Device → Row → ℕ → ℕ → Bool → ℕ → ℕ
+ignorance d r n pulses w at =
+    cond (eqb n 0) 11
+    (cond (not (r .known)) 14
+    (cond (isBusy (d .mode) && not (r .busy)) 12
+    (cond (isDeep (d .mode) && not (r .deep)) 13
+    (cond (not (asNeeded r n pulses)) 15
+    (cond (r .latch && not (d .latch)) 16
+    (cond (guarded (r .area) (figuresOf (d .part)) (d .bp) at) 17
+    (cond (writesSettings (r .turn) && d .srwd && not w) 18
+    0)))))))
+
+-- ---- the verdict
+
+-- a refusal before an ignored instruction, and either before an executed one
+unfoldable pub decided : ℕ → ℕ → Verdict
+decided host chip = cond (eqb host 0) (cond (eqb chip 0) Executed (Ignored chip)) (Refused host)
+
+-- the row of a transaction's first byte
+abbrev pub rowIn : Device → List ℕ → Row
+rowIn d sent = rowOf (figuresOf (d .part)) (getD sent 0 0)
+
+-- what becomes of a transaction
+unfoldable pub verdictOf : Device → ℕ → List ℕ → ℕ → Bool → ℕ → Verdict
+verdictOf d array sent pulses w response =
+    decided (refusal d array (length sent) pulses response)
+    (ignorance d (rowIn d sent) (length sent) pulses w (addressOf (figuresOf (d .part)) sent))

@@ -1,0 +1,7 @@
+-- The rules of the chip, in document 01's order.
+pub mod Table
+pub mod Answers
+pub mod Line
+pub mod Change
+pub mod Outcome
+pub mod Worked

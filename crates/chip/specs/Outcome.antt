@@ -1,0 +1,78 @@
+-- The whole outcome of a transaction and of a delivery, and what the calls promise.
+use mathlib.Core.Path.{_≡_}
+use mathlib.Core.Bool.{Bool}
+use mathlib.Core.List.{List}
+use Prim.Native.Nat.{ℕ, zero, suc}
+use lib.ListN.{length, getD}
+use Rattle.slices.specs.Changed.{mapAt, window, put}
+use Rattle.parts.specs.Parts.{figuresOf}
+use Rattle.device.specs.declared.Device.{Device}
+use Rattle.device.specs.declared.Checked.{Checked}
+use Rattle.device.specs.Device.{zeroRecord, delivered}
+use Rattle.chip.specs.declared.answers.Verdict.{Verdict}
+use Rattle.chip.specs.declared.answers.Verdict.the-variants.{Refused, Ignored, Executed}
+use Rattle.chip.specs.declared.Answer.{Answer}
+use Rattle.chip.specs.Table.{addressOf}
+use Rattle.chip.specs.Answers.{deliveryAnswer, verdictOf, rowIn}
+use Rattle.chip.specs.Line.{lined, firstOf, countOf}
+use Rattle.chip.specs.Change.{cycleOf, touched, turned}
+
+-- ---- a transaction
+
+-- the answer, the record, and every byte of array and response
+pub record Outcome : Type 0 where
+  pub answer : Answer
+  pub device : Device
+  pub array : List ℕ
+  pub response : List ℕ
+
+-- an answer with nothing driven
+abbrev pub bare : ℕ → Answer
+bare k = record { number = k; first = 0; count = 0 }
+
+-- refused: record, array and response unchanged. Ignored: record and array stay, the first n response bytes are FF. Executed: answer 0, and what the instruction does
+unfoldable pub outcomeOf : Verdict → Device → List ℕ → List ℕ → List ℕ → Outcome
+outcomeOf (Refused k) d array sent response = record { answer = bare k; device = d; array = array; response = response }
+outcomeOf (Ignored k) d array sent response =
+    record { answer = bare k; device = d; array = array; response = mapAt (window 0 (length sent) (put 255)) response }
+outcomeOf Executed d array sent response =
+    record {
+      answer = record { number = 0; first = firstOf d array sent; count = countOf d array sent };
+      device = turned (rowIn d sent .turn) d (getD sent 1 0);
+      array = mapAt (touched (figuresOf (d .part)) (cycleOf (rowIn d sent .area) (addressOf (figuresOf (d .part)) sent) sent)) array;
+      response = mapAt (lined d array sent) response;
+    }
+
+-- a transaction: record, array, bytes sent, further pulses, level of W, response
+unfoldable pub transacted : Device → List ℕ → List ℕ → ℕ → Bool → List ℕ → Outcome
+transacted d array sent pulses w response =
+    outcomeOf (verdictOf d (length array) sent pulses w (length response)) d array sent response
+
+-- an answer, a next record, and the array and the response as they are handed back, that are those of an outcome
+pub record Meets (o : Outcome) (a : Answer) (next : Device) (array′ response′ : List ℕ) : Type 0 where
+  pub answer : a ≡ o .answer
+  pub device : next ≡ o .device
+  pub memory : array′ ≡ o .array
+  pub line : response′ ≡ o .response
+
+-- what a transaction call promises
+abbrev pub Transacted : Device → List ℕ → List ℕ → ℕ → Bool → List ℕ → Answer → Device → List ℕ → List ℕ → Type 0
+Transacted d array sent pulses w response = Meets (transacted d array sent pulses w response)
+
+-- ---- a delivery
+
+-- an executed delivery gives the record as delivered; a refused one the all-zero record
+abbrev pub recordBy : ℕ → Device → Device
+recordBy zero d = d
+recordBy (suc k) d = zeroRecord
+
+-- an executed delivery makes the array all FF; a refused one leaves it
+abbrev pub arrayBy : ℕ → List ℕ → List ℕ
+arrayBy zero array = mapAt (put 255) array
+arrayBy (suc k) array = array
+
+-- what a delivery promises
+pub record Delivered (part : ℕ) (array : List ℕ) (program sector bulk status : ℕ) (r : Checked) (array′ : List ℕ) : Type 0 where
+  pub answer : r .answer ≡ deliveryAnswer part (length array) program sector bulk status
+  pub device : r .device ≡ recordBy (deliveryAnswer part (length array) program sector bulk status) (delivered part program sector bulk status)
+  pub memory : array′ ≡ arrayBy (deliveryAnswer part (length array) program sector bulk status) array

@@ -1,0 +1,220 @@
+-- Document 01, 'Worked on the bench part': K1 to K15 as one list, and further cases as another. A case is a record, an array all FF, and what is then done and seen.
+use mathlib.Core.Bool.{Bool, true, false, _&&_}
+use mathlib.Core.List.{List, [], _∷_, _++_}
+use Prim.Native.Nat.{ℕ, suc}
+use lib.Dec.{eqb}
+use lib.ListN.{length, getD, replicate}
+use Rattle.parts.specs.Parts.{figuresOf}
+use Rattle.device.specs.declared.Mode.{Mode}
+use Rattle.device.specs.declared.Mode.the-variants.{Standby, Busy, Deep}
+use Rattle.device.specs.declared.Device.{Device}
+use Rattle.device.specs.Device.{waitCall, powerUpCall}
+use Rattle.chip.specs.declared.Answer.{Answer}
+use Rattle.chip.specs.Outcome.{Outcome, transacted, bare}
+
+-- ---- what is done, and what is seen
+
+pub data Event : Type 0 where
+  -- a transaction: level of W, further pulses, the bytes; then the whole answer, and the first n bytes of the response
+  sends : Bool → ℕ → List ℕ → Answer → List ℕ → Event
+  -- ticks go by
+  waits : ℕ → Event
+  -- power-up
+  starts : Event
+  -- byte i of the array is x
+  holds : ℕ → ℕ → Event
+
+abbrev pub same : List ℕ → List ℕ → Bool
+same [] [] = true
+same [] (y ∷ ys) = false
+same (x ∷ xs) [] = false
+same (x ∷ xs) (y ∷ ys) = eqb x y && same xs ys
+
+-- the response buffer: n zeros, and one more that stays
+abbrev pub buffer : List ℕ → List ℕ
+buffer bytes = replicate (suc (length bytes)) 0
+
+-- the outcome has this answer, and this response before the byte that stays
+abbrev pub gave : Outcome → Answer → List ℕ → Bool
+gave o a r = eqb (o .answer .number) (a .number) && eqb (o .answer .first) (a .first) && eqb (o .answer .count) (a .count) && same (o .response) (r ++ (0 ∷ []))
+
+-- all that is to be seen is seen, in order
+unfoldable pub sees : List Event → Device → List ℕ → Bool
+sees [] d array = true
+sees (sends w p bytes a r ∷ es) d array =
+    let o = transacted d array bytes p w (buffer bytes) in
+    gave o a r && sees es (o .device) (o .array)
+sees (waits t ∷ es) d array = eqb (waitCall d t .answer) 0 && sees es (waitCall d t .device) array
+sees (starts ∷ es) d array = eqb (powerUpCall d .answer) 0 && sees es (powerUpCall d .device) array
+sees (holds i x ∷ es) d array = eqb (getD array i 0) x && sees es d array
+
+pub record Case : Type 0 where
+  pub device : Device
+  pub events : List Event
+
+-- an array all FF of the part's size
+abbrev pub fresh : Device → List ℕ
+fresh d = replicate (figuresOf (d .part) .bytes) 0xFF
+
+unfoldable pub all : List Case → Bool
+all [] = true
+all (k ∷ ks) = sees (k .events) (k .device) (fresh (k .device)) && all ks
+
+-- ---- short forms
+
+-- a record by part, BP, SRWD, latch and mode; durations 3, 5, 9, 2
+abbrev pub record-of : ℕ → ℕ → Bool → Bool → Mode → Device
+record-of p b s l m = record { part = p; bp = b; srwd = s; latch = l; mode = m; program = 3; «sector_erase» = 5; «bulk_erase» = 9; «write_status» = 2 }
+
+-- the bench part in standby, by BP, SRWD and latch
+abbrev pub bench : ℕ → Bool → Bool → Device
+bench b s l = record-of 0 b s l Standby
+
+-- standby, BP 0, SRWD 0, latch set
+abbrev pub usual : Device
+usual = bench 0 false true
+
+-- answered by a number, with nothing driven; by the level of W and the further pulses
+abbrev pub told : Bool → ℕ → List ℕ → ℕ → Event
+told w p bytes k = sends w p bytes (bare k) (replicate (length bytes) 0xFF)
+
+-- the same, W high and no further pulses
+abbrev pub answers : List ℕ → ℕ → Event
+answers bytes k = told true 0 bytes k
+
+-- executed, and driven from a position on: the position, and what is driven
+abbrev pub reads : List ℕ → ℕ → List ℕ → Event
+reads bytes first r = sends true 0 bytes (record { number = 0; first = first; count = length r }) (replicate first 0xFF ++ r)
+
+-- the status byte is s
+abbrev pub status : ℕ → Event
+status s = reads (0x05 ∷ 0 ∷ []) 1 (s ∷ [])
+
+-- ---- K1 to K15
+
+-- no bytes: 11
+abbrev pub k1 : Case
+k1 = record { device = usual; events = answers [] 11 ∷ [] }
+
+-- latch reset: `06` gives 0 and sets it; with one further pulse, 15
+abbrev pub k2 : Case
+k2 = record { device = bench 0 false false; events = told true 1 (0x06 ∷ []) 15 ∷ status 0x00 ∷ answers (0x06 ∷ []) 0 ∷ status 0x02 ∷ [] }
+
+-- latch reset: `0200001000` gives 16
+abbrev pub k3 : Case
+k3 = record { device = bench 0 false false; events = answers (0x02 ∷ 0 ∷ 0 ∷ 0x10 ∷ 0 ∷ []) 16 ∷ holds 16 0xFF ∷ [] }
+
+-- AA programmed onto F0 leaves A0
+abbrev pub k4 : Case
+k4 = record {
+  device = usual;
+  events =
+      answers (0x02 ∷ 0 ∷ 0 ∷ 0 ∷ 0xF0 ∷ []) 0 ∷ holds 0 0xF0 ∷ waits 3 ∷ answers (0x06 ∷ []) 0 ∷ answers (0x02 ∷ 0 ∷ 0 ∷ 0 ∷ 0xAA ∷ []) 0 ∷ holds 0 0xA0 ∷ [];
+}
+
+-- 257 data bytes at 000000, first 11, last 22, between them FF: byte 0 is 22, not 00
+abbrev pub k5 : Case
+k5 = record { device = usual; events = answers ((0x02 ∷ 0 ∷ 0 ∷ 0 ∷ 0x11 ∷ []) ++ (replicate 255 0xFF ++ (0x22 ∷ []))) 0 ∷ holds 0 0x22 ∷ holds 256 0xFF ∷ [] }
+
+-- reading two bytes from 000FFF gives byte 4,095, then byte 0; these are 5A and C3
+abbrev pub k6 : Case
+k6 = record {
+  device = usual;
+  events =
+      answers (0x02 ∷ 0 ∷ 0x0F ∷ 0xFF ∷ 0x5A ∷ []) 0 ∷ waits 3 ∷ answers (0x06 ∷ []) 0 ∷ answers (0x02 ∷ 0 ∷ 0 ∷ 0 ∷ 0xC3 ∷ []) 0 ∷ waits 3
+      ∷ reads (0x03 ∷ 0 ∷ 0x0F ∷ 0xFF ∷ 0 ∷ 0 ∷ []) 4 (0x5A ∷ 0xC3 ∷ []) ∷ [];
+}
+
+-- BP 1: a program at 000BFF is executed, at 000C00 gives 17
+abbrev pub k7 : Case
+k7 = record { device = bench 1 false true; events = answers (0x02 ∷ 0 ∷ 0x0C ∷ 0 ∷ 0 ∷ []) 17 ∷ answers (0x02 ∷ 0 ∷ 0x0B ∷ 0xFF ∷ 0 ∷ []) 0 ∷ holds 3071 0 ∷ holds 3072 0xFF ∷ [] }
+
+-- BP 1: `C7` gives 17
+abbrev pub k8 : Case
+k8 = record { device = bench 1 false true; events = answers (0xC7 ∷ []) 17 ∷ [] }
+
+-- SRWD 1: `0100` gives 18 with W low, 0 with W high
+abbrev pub k9 : Case
+k9 = record { device = bench 0 true true; events = told false 0 (0x01 ∷ 0 ∷ []) 18 ∷ told true 0 (0x01 ∷ 0 ∷ []) 0 ∷ [] }
+
+-- `01FF`: status 8F while busy, 8C afterwards
+abbrev pub k10 : Case
+k10 = record { device = usual; events = answers (0x01 ∷ 0xFF ∷ []) 0 ∷ status 0x8F ∷ waits 2 ∷ status 0x8C ∷ [] }
+
+-- `02000000` gives 15, so does `D800000000`
+abbrev pub k11 : Case
+k11 = record { device = usual; events = answers (0x02 ∷ 0 ∷ 0 ∷ 0 ∷ []) 15 ∷ answers (0xD8 ∷ 0 ∷ 0 ∷ 0 ∷ 0 ∷ []) 15 ∷ [] }
+
+-- a program started: status 03 after waiting 2, 00 after 1 more
+abbrev pub k12 : Case
+k12 = record { device = usual; events = answers (0x02 ∷ 0 ∷ 0 ∷ 0 ∷ 0 ∷ []) 0 ∷ waits 2 ∷ status 0x03 ∷ waits 1 ∷ status 0x00 ∷ [] }
+
+-- deep: `0500` gives 13, `AB` gives 0 and standby
+abbrev pub k13 : Case
+k13 = record { device = record-of 0 0 false true Deep; events = answers (0x05 ∷ 0 ∷ []) 13 ∷ answers (0xAB ∷ []) 0 ∷ status 0x02 ∷ [] }
+
+-- M25P128: `AB` gives 14
+abbrev pub k14 : Case
+k14 = record { device = record-of 4 0 false true Standby; events = answers (0xAB ∷ []) 14 ∷ [] }
+
+-- latch reset, BP 3: `D8000000` gives 16, not 17
+abbrev pub k15 : Case
+k15 = record { device = bench 3 false false; events = answers (0xD8 ∷ 0 ∷ 0 ∷ 0 ∷ []) 16 ∷ [] }
+
+unfoldable pub cases : List Case
+cases = k1 ∷ k2 ∷ k3 ∷ k4 ∷ k5 ∷ k6 ∷ k7 ∷ k8 ∷ k9 ∷ k10 ∷ k11 ∷ k12 ∷ k13 ∷ k14 ∷ k15 ∷ []
+
+-- ---- further cases
+
+-- SRWD 0, W low: `0100` is executed
+abbrev pub low-alone : Case
+low-alone = record { device = usual; events = told false 0 (0x01 ∷ 0 ∷ []) 0 ∷ status 0x03 ∷ [] }
+
+-- SRWD 1, W low: a program is executed
+abbrev pub low-program : Case
+low-program = record { device = bench 0 true true; events = told false 0 (0x02 ∷ 0 ∷ 0 ∷ 0 ∷ 0x5A ∷ []) 0 ∷ holds 0 0x5A ∷ [] }
+
+-- a busy M25P128 answers 14 to `AB`, and 12 to what it knows
+abbrev pub busy-unknown : Case
+busy-unknown = record { device = record-of 4 0 false true (Busy 3); events = answers (0xAB ∷ []) 14 ∷ answers (0x9F ∷ 0 ∷ []) 12 ∷ [] }
+
+-- four mixed bytes read over the end of the array, by READ and by FAST_READ
+abbrev pub roll-over : Case
+roll-over = record {
+  device = usual;
+  events =
+      answers (0x02 ∷ 0 ∷ 0x0F ∷ 0xFE ∷ 0x11 ∷ 0x5A ∷ []) 0 ∷ waits 3 ∷ answers (0x06 ∷ []) 0 ∷ answers (0x02 ∷ 0 ∷ 0 ∷ 0 ∷ 0xC3 ∷ 0x3C ∷ []) 0 ∷ waits 3
+      ∷ reads (0x03 ∷ 0 ∷ 0x0F ∷ 0xFE ∷ 0 ∷ 0 ∷ 0 ∷ 0 ∷ []) 4 (0x11 ∷ 0x5A ∷ 0xC3 ∷ 0x3C ∷ [])
+      ∷ reads (0x0B ∷ 0 ∷ 0x1F ∷ 0xFF ∷ 0 ∷ 0 ∷ 0 ∷ []) 5 (0x5A ∷ 0xC3 ∷ []) ∷ [];
+}
+
+-- M25P10-A: WRSR ignores bit 4
+abbrev pub two-bits : Case
+two-bits = record { device = record-of 1 0 false true Standby; events = answers (0x01 ∷ 0x10 ∷ []) 0 ∷ status 0x03 ∷ waits 2 ∷ status 0x00 ∷ [] }
+
+-- M25P40: WRSR takes bit 4
+abbrev pub three-bits : Case
+three-bits = record { device = record-of 2 0 false true Standby; events = answers (0x01 ∷ 0x10 ∷ []) 0 ∷ status 0x13 ∷ waits 2 ∷ status 0x10 ∷ [] }
+
+-- a program wraps within its page
+abbrev pub wraps : Case
+wraps = record { device = usual; events = answers (0x02 ∷ 0 ∷ 0 ∷ 0xFF ∷ 0x5A ∷ 0xF0 ∷ []) 0 ∷ holds 255 0x5A ∷ holds 0 0xF0 ∷ holds 256 0xFF ∷ [] }
+
+-- an erased sector is FF and its neighbour stays; power-up ends the cycle
+abbrev pub erases : Case
+erases = record {
+  device = usual;
+  events =
+      answers (0x02 ∷ 0 ∷ 0x03 ∷ 0xFF ∷ 0 ∷ []) 0 ∷ waits 3 ∷ answers (0x06 ∷ []) 0 ∷ answers (0x02 ∷ 0 ∷ 0x04 ∷ 0 ∷ 0 ∷ []) 0 ∷ starts ∷ status 0x00 ∷ answers (0x06 ∷ []) 0
+      ∷ answers (0xD8 ∷ 0 ∷ 0x04 ∷ 0xFF ∷ []) 0 ∷ holds 1023 0 ∷ holds 1024 0xFF ∷ waits 5 ∷ answers (0x06 ∷ []) 0 ∷ answers (0xC7 ∷ []) 0 ∷ holds 1023 0xFF ∷ [];
+}
+
+-- identification, then 00; the signature from byte 4 on
+abbrev pub names : Case
+names = record {
+  device = record-of 2 0 false true Standby;
+  events = reads (0x9F ∷ 0 ∷ 0 ∷ 0 ∷ 0 ∷ []) 1 (0x20 ∷ 0x20 ∷ 0x13 ∷ 0 ∷ []) ∷ reads (0xAB ∷ 0 ∷ 0 ∷ 0 ∷ 0 ∷ 0 ∷ []) 4 (0x12 ∷ 0x12 ∷ []) ∷ [];
+}
+
+unfoldable pub further : List Case
+further = low-alone ∷ low-program ∷ busy-unknown ∷ roll-over ∷ two-bits ∷ three-bits ∷ wraps ∷ erases ∷ names ∷ []

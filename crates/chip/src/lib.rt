@@ -1,0 +1,156 @@
+// The chip: a transaction on a record, a lent array and a lent response; delivery; and the entry that takes the record lent.
+ghost use mathlib.Core.Path.{_≡_};
+ghost use Prim.Native.Nat.{_≤_};
+ghost use lib.ListN.{length};
+ghost use Rattle.chip.specs.Answers.{deliveryAnswer};
+ghost use Rattle.chip.specs.Outcome.{bare, outcomeOf, Meets, Transacted, Delivered};
+ghost use Rattle.chip.specs.declared.answers.Verdict.the-variants.{Executed};
+
+pub mod answers;
+mod change;
+pub mod lent;
+mod line;
+mod table;
+
+use answers::Verdict;
+use device::Checked;
+use device::Device;
+use parts::Figures;
+
+// An answer: its number, the first driven position and the driven count.
+pub struct Answer {
+    pub number: u8,
+    pub first: u32,
+    pub count: u32,
+}
+
+// A transaction's answer, and the next record.
+pub struct Done {
+    pub answer: Answer,
+    pub device: Device,
+}
+
+// An answer with nothing driven.
+fn bare(number: u8) -> Answer
+    ensures { λ r. ⌜ r ≡ bare number ⌝ }
+{
+    Answer {
+        number,
+        first: 0,
+        count: 0,
+    }
+}
+
+// Executes a transaction: first the line, then the array, then the record.
+fn execute(device: Device, array: &mut [u8], sent: &[u8], response: &mut [u8]) -> Done
+    requires { ⌜ length (now sent) ≤ 65536 ⌝ }
+    ensures { λ o. ⌜ Meets (outcomeOf Executed device (now (array .entry)) (now (sent .entry)) (now (response .entry))) (o .answer) (o .device) (now (array .exit)) (now (response .exit)) ⌝ }
+{
+    let figures = Figures::of(device.part);
+    let code = slices::byte_at(sent, 0);
+    let row = table::decode(figures, code);
+    let area = row.area;
+    let turn = row.turn;
+    let span = line::respond(device, array, sent, response);
+    let at = table::address(figures, sent);
+    let cycle = change::cycle_of(area, at, sent);
+    change::complete(figures, cycle, array);
+    let b = slices::byte_at(sent, 1);
+    let next = change::next_record(turn, device, b);
+    let answer = Answer {
+        number: 0,
+        first: span.first as u32,
+        count: span.count as u32,
+    };
+    Done {
+        answer,
+        device: next,
+    }
+}
+
+// One transaction: the bytes sent, the further pulses, and the level of W as Chip Select rises.
+pub fn transact(
+    device: Device,
+    array: &mut [u8],
+    sent: &[u8],
+    pulses: u32,
+    w: bool,
+    response: &mut [u8],
+) -> Done
+    ensures { λ o. ⌜ Transacted device (now (array .entry)) (now (sent .entry)) pulses w (now (response .entry)) (o .answer) (o .device) (now (array .exit)) (now (response .exit)) ⌝ }
+{
+    let verdict = answers::judge(device, array.len(), sent, pulses, w, response.len());
+    match verdict {
+        Verdict::Refused(k) => {
+            let answer = bare(k);
+            return Done { answer, device };
+        }
+        Verdict::Ignored(k) => {
+            let start = 0;
+            slices::fill_part(response, start, sent.len(), 0xFF);
+            let answer = bare(k);
+            return Done { answer, device };
+        }
+        Verdict::Executed => {
+            return execute(device, array, sent, response);
+        }
+    }
+}
+
+// The number that answers a delivery.
+fn delivery_number(
+    part: u32,
+    array: usize,
+    program: u32,
+    sector_erase: u32,
+    bulk_erase: u32,
+    write_status: u32,
+) -> u8
+    ensures { λ r. ⌜ r ≡ deliveryAnswer part array program «sector_erase» «bulk_erase» «write_status» ⌝ }
+{
+    if 255 < part {
+        return 1;
+    }
+    let small = part as u8;
+    let known = parts::known(small);
+    let figures = Figures::of(small);
+    let p = device::ranged(program);
+    let s = device::ranged(sector_erase);
+    let b = device::ranged(bulk_erase);
+    let w = device::ranged(write_status);
+    let x = slices::when(!(p & s & b & w), 7, 0);
+    let x = slices::when(array != figures.bytes, 2, x);
+    slices::when(!known, 1, x)
+}
+
+// Delivers a part with the given durations: the array becomes FF.
+pub fn deliver(
+    part: u32,
+    array: &mut [u8],
+    program: u32,
+    sector_erase: u32,
+    bulk_erase: u32,
+    write_status: u32,
+) -> Checked
+    ensures { λ r. ⌜ Delivered part (now (array .entry)) program «sector_erase» «bulk_erase» «write_status» r (now (array .exit)) ⌝ }
+{
+    let number = delivery_number(
+        part,
+        array.len(),
+        program,
+        sector_erase,
+        bulk_erase,
+        write_status,
+    );
+    if number != 0 {
+        let device = Device::zero();
+        return Checked {
+            answer: number,
+            device,
+        };
+    }
+    let small = (part % 256) as u8;
+    memory::erase_all(array);
+    let device = Device::delivered(small, program, sector_erase, bulk_erase, write_status);
+    Checked { answer: 0, device }
+}
