@@ -1,0 +1,109 @@
+-- Lists of jobs on the bench part, computed: programs executed and ignored, an erase between them, two programs on one byte.
+use mathlib.Core.Path.{_≡_, refl}
+use mathlib.Core.Bool.{true, false, _||_, true≢false}
+use mathlib.Core.List.{List, [], _∷_, _++_}
+use Prim.Native.Nat.{ℕ, _≤_}
+use native.Mathlib.Omega.{arith}
+use lib.Dec.{lit≤}
+use lib.ListN.{length, getD, replicate, length-replicate}
+use Rattle.slices.specs.Changed.{mapAt}
+use Rattle.memory.specs.Memory.{blank, reached, landed, programmed, erased}
+use Rattle.memory.specs.Memory as memory
+use Rattle.parts.specs.Parts.{figuresOf}
+use Rattle.parts.specs.Protected.{protectedOf, columnOf, uncelled}
+use Rattle.device.specs.declared.Mode.the-variants.{Standby}
+use Rattle.device.specs.Device.{sound, latchAt, moded, latched, running, waited, soundAnswer, waitCall}
+use Rattle.chip.specs.Table.{rowOf, addressOf}
+use Rattle.chip.specs.Answers.{refusal, ignorance, asNeeded, inProtected, decided, verdictOf}
+use Rattle.chip.specs.Change.{cycleOf, touched, turned}
+use Rattle.chip.specs.Outcome.{outcomeOf, transacted}
+use Rattle.jobs.specs.Jobs.{Job, Chip, Ran, enabled, carriedOut, rested, disabled, run, history, isProgram, isErase, isBulkErase, AtRest, WellFormed, AllFormed}
+use Rattle.jobs.specs.Formula.{afterLastErase, programmedBytes, endsAs}
+
+-- the bench part in standby with BP 1, which protects the sector from 000C00 on; durations 3, 5, 9, 2; every byte 7F
+abbrev pub start : Chip
+start =
+    record {
+      device = record { part = 0; bp = 1; srwd = false; latch = false; mode = Standby; program = 3; «sector_erase» = 5; «bulk_erase» = 9; «write_status» = 2 };
+      array = replicate 4096 0x7F;
+    }
+
+-- a job with W low and room for each response
+abbrev pub job : List ℕ → Job
+job sent =
+    record { sent = sent; pulses = 0; w₁ = false; w₂ = false; w₃ = false; response₁ = 0 ∷ []; response₂ = replicate 5 0; response₃ = 0 ∷ [] }
+
+-- one byte b programmed at address 00, middle, low
+abbrev pub programs : ℕ → ℕ → ℕ → Job
+programs middle low b = job (0x02 ∷ 0x00 ∷ middle ∷ low ∷ b ∷ [])
+
+-- two programs hit byte 16, one is in the protected sector, one has no data
+abbrev pub first : List Job
+first = programs 0x00 0x10 0xF0 ∷ programs 0x00 0x10 0xAA ∷ programs 0x0C 0x00 0x00 ∷ job (0x02 ∷ 0x00 ∷ 0x00 ∷ 0x10 ∷ []) ∷ []
+
+-- the sector of byte 16 is erased, and two programs hit the byte again; a bulk erase with BP above 0 comes last
+abbrev pub second : List Job
+second = job (0xD8 ∷ 0x00 ∷ 0x00 ∷ 0x00 ∷ []) ∷ programs 0x00 0x10 0x5A ∷ programs 0x00 0x10 0x3C ∷ job (0xC7 ∷ []) ∷ []
+
+-- the answer numbers of a run
+abbrev pub numbers : List Ran → List ℕ
+numbers [] = []
+numbers (r ∷ rs) = r .number ∷ numbers rs
+
+-- the start and the lists are as the theorems ask
+pub ready : AtRest start
+unfolding sound figuresOf
+ready = record { sound = refl; standby = refl; whole = length-replicate {A = ℕ} 4096 0x7F }
+
+-- a job of at most five bytes is well formed
+well : (sent : List ℕ) → isProgram (job sent) || isErase (job sent) ≡ true → (isBulkErase (job sent) ≡ false → 4 ≤ length sent) → length sent ≤ 5 → WellFormed (job sent)
+well sent k a n = record { kind = k; addressed = a; few = omega arith; pulses = lit≤ tt; room₁ = lit≤ tt; room₂ = n; room₃ = lit≤ tt }
+
+pub formed : AllFormed (first ++ second)
+formed = (
+  well _ refl (λ h. lit≤ tt) (lit≤ tt),
+  (
+    well _ refl (λ h. lit≤ tt) (lit≤ tt),
+    (
+      well _ refl (λ h. lit≤ tt) (lit≤ tt),
+      (
+        well _ refl (λ h. lit≤ tt) (lit≤ tt),
+        (
+          well _ refl (λ h. lit≤ tt) (lit≤ tt),
+          (
+            well _ refl (λ h. lit≤ tt) (lit≤ tt),
+            (
+              well _ refl (λ h. lit≤ tt) (lit≤ tt),
+              (well _ refl (λ h. absurd (true≢false h)) (lit≤ tt), tt),
+            ),
+          ),
+        ),
+      ),
+    ),
+  ),
+)
+
+-- what the lists show
+pub record Shown : Type 0 where
+  -- executed, executed, protected, no data; executed three times, protected
+  pub answers : numbers (history (first ++ second) start) ≡ 0 ∷ 0 ∷ 17 ∷ 15 ∷ 0 ∷ 0 ∷ 0 ∷ 17 ∷ []
+  -- 7F and F0 and AA; a byte of the protected sector stays
+  pub anded : getD (run first start .array) 16 0 ≡ 0x20
+  pub protects : getD (run first start .array) 0xC00 0 ≡ 0x7F
+  -- FF after the erase, and 5A, and 3C; its neighbour stays FF, and the next sector as it was
+  pub anew : getD (run (first ++ second) start .array) 16 0 ≡ 0x18
+  pub erases : getD (run (first ++ second) start .array) 17 0 ≡ 0xFF
+  pub keeps : getD (run (first ++ second) start .array) 1024 0 ≡ 0x7F
+  -- the formula's own values
+  pub formula-first : endsAs (figuresOf 0) 16 (history first start) 0x7F ≡ 0x20
+  pub formula : endsAs (figuresOf 0) 16 (history (first ++ second) start) 0x7F ≡ 0x18
+  pub later : programmedBytes (figuresOf 0) 16 (afterLastErase (figuresOf 0) 16 (history (first ++ second) start)) ≡ 0x5A ∷ 0x3C ∷ []
+  -- a program and an erase of one sector may not change places
+  pub erase-last : getD (run (programs 0x00 0x10 0xF0 ∷ job (0xD8 ∷ 0x00 ∷ 0x00 ∷ 0x00 ∷ []) ∷ []) start .array) 16 0 ≡ 0xFF
+  pub erase-first : getD (run (job (0xD8 ∷ 0x00 ∷ 0x00 ∷ 0x00 ∷ []) ∷ programs 0x00 0x10 0xF0 ∷ []) start .array) 16 0 ≡ 0xF0
+
+-- computed by the checker
+pub shown : Shown
+unfolding enabled carriedOut rested disabled transacted outcomeOf verdictOf decided refusal ignorance rowOf addressOf asNeeded inProtected protectedOf columnOf uncelled cycleOf touched turned running moded latched waited waitCall soundAnswer sound latchAt figuresOf mapAt programmed erased blank memory.latched reached landed
+shown =
+    record { erase-last = refl; erase-first = refl; answers = refl; anded = refl; protects = refl; erases = refl; keeps = refl; anew = refl; later = refl; formula = refl; formula-first = refl }

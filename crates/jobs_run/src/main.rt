@@ -1,0 +1,90 @@
+// Runs lists of jobs on the bench part, neighbours swapped and not, and writes the answers, whether the arrays end the same, and byte 16 of each.
+use device::Device;
+
+// One transaction.
+fn send(device: Device, array: &mut [u8], sent: &[u8]) -> Device {
+    let mut response = [0; 16];
+    let done = chip::transact(device, array, sent, 0, true, &mut response);
+    done.device
+}
+
+// The settings written: a write enable, the instruction, a wait.
+fn set(device: Device, array: &mut [u8], settings: &[u8]) -> Device {
+    let on = send(device, array, b"\x06");
+    let started = send(on, array, settings);
+    let waited = started.wait(2);
+    waited.device
+}
+
+// One job, its answer number written.
+fn step(device: Device, array: &mut [u8], sent: &[u8]) -> Device {
+    let mut response = [0; 16];
+    let done = jobs::run_job(device, array, sent, 0, true, &mut response);
+    let answer = done.answer;
+    let number = answer.number;
+    io::write_all(1, b" ");
+    io::print_decimal(1, number as u64);
+    done.device
+}
+
+// Two jobs.
+fn pair(device: Device, array: &mut [u8], first: &[u8], second: &[u8]) -> Device {
+    let between = step(device, array, first);
+    step(between, array, second)
+}
+
+// A delivered part with these settings, and two jobs between a program before and one after.
+fn list(array: &mut [u8], settings: &[u8], first: &[u8], second: &[u8]) {
+    let delivered = chip::deliver(0, array, 3, 5, 9, 2);
+    let ready = set(delivered.device, array, settings);
+    let between = pair(ready, array, b"\x02\x00\x00\x10\x7F", first);
+    pair(between, array, second, b"\x02\x00\x04\x00\x3C");
+}
+
+fn wide(x: u8) -> u64 {
+    x as u64
+}
+
+// What the two orders left.
+fn compare(a: &[u8; 4096], b: &[u8; 4096]) {
+    if check::same(a, b) {
+        io::write_all(1, b" same ");
+    } else {
+        io::write_all(1, b" differ ");
+    }
+    io::print_hex(1, wide(a[16]), 2);
+    io::write_all(1, b" ");
+    io::print_hex(1, wide(b[16]), 2);
+    io::write_all(1, b"\n");
+}
+
+// Two jobs in both orders.
+fn both_ways(settings: &[u8], first: &[u8], second: &[u8]) {
+    let mut a = [0; 4096];
+    let mut b = [0; 4096];
+    list(&mut a, settings, first, second);
+    io::write_all(1, b" |");
+    list(&mut b, settings, second, first);
+    compare(&a, &b);
+}
+
+fn main() {
+    // two programs on one byte
+    both_ways(
+        b"\x01\x00",
+        b"\x02\x00\x00\x10\xF0",
+        b"\x02\x00\x00\x10\xAA",
+    );
+    // two erases, one of them of everything
+    both_ways(b"\x01\x00", b"\xD8\x00\x00\x00", b"\xC7");
+    // a program and an erase of another sector
+    both_ways(b"\x01\x00", b"\x02\x00\x00\x10\xF0", b"\xD8\x00\x04\x00");
+    // a program and an erase of its own sector, which may not change places
+    both_ways(b"\x01\x00", b"\x02\x00\x00\x10\xF0", b"\xD8\x00\x00\x00");
+    // a program and a bulk erase, which may not change places
+    both_ways(b"\x01\x00", b"\x02\x00\x00\x10\xF0", b"\xC7");
+    // BP 1: a program in the protected sector and a program without data
+    both_ways(b"\x01\x04", b"\x02\x00\x0C\x00\x00", b"\x02\x00\x00\x10");
+    // BP 1: a bulk erase and a sector erase
+    both_ways(b"\x01\x04", b"\xC7", b"\xD8\x00\x00\x00");
+}
