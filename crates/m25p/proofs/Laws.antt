@@ -1,0 +1,166 @@
+-- What the C calls give, by what unpacking answers; and that each promise admits one outcome only.
+-- Assumes nothing.
+use mathlib.Core.Path.{_≡_, refl, sym, ap, _∙_}
+use mathlib.Core.Bool.{Bool, true, false, cond, not, _&&_}
+use mathlib.Core.List.{List}
+use Prim.Native.Nat.{ℕ, zero, suc, _+_, _*_, _/_, _%_, _<_}
+use native.Mathlib.Omega.{arith}
+use borrow.Author.Tests.{eq-eqb, ne-eqb, eqb-true}
+use lib.Dec.{eqb}
+use lib.ListN.{length}
+use Rattle.slices.proofs.Choices.{both}
+use Rattle.parts.specs.Parts.{figuresOf, knownPart}
+use Rattle.device.specs.declared.Device.{Device}
+use Rattle.device.specs.declared.Checked.{Checked}
+use Rattle.device.specs.Device.{onZero, sound, rangedOf, waited, waitCall, poweredUp, powerUpCall, soundAnswer, delivered}
+use Rattle.device.specs.Packing.{packOf, packAnswer, Packed, unpackAnswer, unpackOf}
+use Rattle.device.proofs.Sound.{delivered-sound}
+use Rattle.device.proofs.Inverse.{opened}
+use Rattle.chip.specs.declared.Answer.{Answer}
+use Rattle.chip.specs.declared.answers.Verdict.the-variants.{Refused}
+use Rattle.chip.specs.Answers.{deliveryAnswer}
+use Rattle.chip.specs.Outcome.{Outcome, bare, outcomeOf, transacted, Meets, Delivered, recordBy, arrayBy}
+use Rattle.chip.proofs.Records.{wait-sound, power-up-sound}
+use Rattle.chip.proofs.Rules.{stays-sound}
+use Rattle.m25p.specs.Calls.{packedAnswer, high, packedBy, transactedC, Called, checkedC, CalledOn, deliveryC, DeliveredC}
+
+-- ---- packing
+
+-- the number that unpacking answers
+named : (b : List ℕ) → unpackOf b .answer ≡ unpackAnswer b
+unfolding unpackOf
+named b = refl
+
+-- bytes that unpack hold a sound record
+pub unpacked-sound : (b : List ℕ) → unpackOf b .answer ≡ 0 → sound (unpackOf b .device) ≡ true
+unpacked-sound b e = let o = opened b e in rw (o .fields) (o .is-sound)
+
+-- a sound record packed over 28 bytes
+pub packs : {d : Device} {out out′ : List ℕ} {r : ℕ} → Packed d out r out′ → length out ≡ 28 → sound d ≡ true → out′ ≡ packOf d
+unfolding packAnswer
+packs p l s = p .bytes ∙ rw (l, s)
+
+-- an answer that is not 0 leaves the packed bytes
+pub kept : (k : ℕ) (d : Device) (b : List ℕ) → (k ≡ 0 → ⊥) → b ≡ packedBy k d b
+kept zero d b n = absurd (n refl)
+kept (suc k) d b n = refl
+
+-- an answer of 0 packs the next record
+pub written : (k : ℕ) {d e : Device} (b : List ℕ) {b′ : List ℕ} → k ≡ 0 → d ≡ e → b′ ≡ packOf d → b′ ≡ packedBy k e b
+written k b z e p = rw z (p ∙ ap packOf e)
+
+-- ---- a transaction
+
+-- the packing is refused
+pub refused : (packed array sent : List ℕ) (pulses w : ℕ) (response : List ℕ) {r : ℕ} → (unpackOf packed .answer ≡ 0 → ⊥) → r ≡ packedAnswer (bare (unpackOf packed .answer))
+    → Called (transactedC packed array sent pulses w response) packed r packed array response
+unfolding transactedC outcomeOf
+refused packed array sent pulses w response {r} n e = go (unpackAnswer packed) (λ z. n (named packed ∙ z)) (e ∙ ap (λ (k : ℕ). packedAnswer (bare k)) (named packed))
+  where
+    go : (k : ℕ) → (k ≡ 0 → ⊥) → r ≡ packedAnswer (bare k)
+        → Called (onZero k (transacted (unpackOf packed .device) array sent pulses (high w) response) (outcomeOf (Refused k) (unpackOf packed .device) array sent response)) packed r packed array response
+    go zero n e = absurd (n refl)
+    go (suc k) n e = record { answer = e; bytes = refl; memory = refl; line = refl }
+
+-- the packing is that of a sound record
+pub carried : (packed array sent : List ℕ) (pulses w : ℕ) (response : List ℕ) {r : ℕ} {packed′ array′ response′ : List ℕ} {a : Answer} {next : Device} → unpackOf packed .answer ≡ 0
+    → Meets (transacted (unpackOf packed .device) array sent pulses (high w) response) a next array′ response′ → r ≡ packedAnswer a → packed′ ≡ packedBy (a .number) next packed
+    → Called (transactedC packed array sent pulses w response) packed r packed′ array′ response′
+unfolding transactedC
+carried packed array sent pulses w response {r} {packed′} {array′} {response′} {a} {next} z m e p =
+    let y : unpackAnswer packed ≡ 0 = sym (named packed) ∙ z in
+    rw y
+    (record { answer = e ∙ ap packedAnswer (m .answer); bytes = p ∙ ap (λ (x : Answer). packedBy (x .number) next packed) (m .answer) ∙ ap (λ (d : Device). packedBy (transacted (unpackOf packed .device) array sent pulses (high w) response .answer .number) d packed) (m .device); memory = m .memory; line = m .line })
+
+pub next-sound : (packed array sent : List ℕ) (pulses : ℕ) (w : Bool) (response : List ℕ) {a : Answer} {next : Device} {array′ response′ : List ℕ} → unpackOf packed .answer ≡ 0
+    → Meets (transacted (unpackOf packed .device) array sent pulses w response) a next array′ response′ → sound next ≡ true
+next-sound packed array sent pulses w response z m = rw (m .device) (stays-sound (unpackOf packed .device) array sent pulses w response (unpacked-sound packed z))
+
+pub leaves : (a : Answer) (next : Device) (packed : List ℕ) → (a .number ≡ 0 → ⊥) → packed ≡ packedBy (a .number) next packed
+leaves a next packed n = kept (a .number) next packed n
+
+-- the promise admits one outcome only
+pub one-call : {o : Outcome} {packed packed′ packed″ array′ array″ response′ response″ : List ℕ} {r s : ℕ} → Called o packed r packed′ array′ response′ → Called o packed s packed″ array″ response″
+    → (r ≡ s) × (packed′ ≡ packed″) × (array′ ≡ array″) × (response′ ≡ response″)
+one-call p q = (p .answer ∙ sym (q .answer), p .bytes ∙ sym (q .bytes), p .memory ∙ sym (q .memory), p .line ∙ sym (q .line))
+
+-- ---- wait and power-up
+
+pub refused-on : (call : Device → Checked) (packed : List ℕ) {r : ℕ} → (unpackOf packed .answer ≡ 0 → ⊥) → r ≡ packedAnswer (bare (unpackOf packed .answer)) → CalledOn (checkedC call packed) packed r packed
+unfolding checkedC
+refused-on call packed {r} n e = go (unpackAnswer packed) (named packed) (λ z. n (named packed ∙ z))
+  where
+    go : (k : ℕ) → unpackOf packed .answer ≡ k → (k ≡ 0 → ⊥) → CalledOn (onZero k (call (unpackOf packed .device)) (unpackOf packed)) packed r packed
+    go zero q n = absurd (n refl)
+    go (suc k) q n = record { answer = e; bytes = kept (unpackOf packed .answer) (unpackOf packed .device) packed (λ z. n (sym q ∙ z)) }
+
+pub carried-on : (call : Device → Checked) (packed : List ℕ) {r : ℕ} {packed′ : List ℕ} → unpackOf packed .answer ≡ 0 → call (unpackOf packed .device) .answer ≡ 0 → r ≡ packedAnswer (bare 0)
+    → packed′ ≡ packOf (call (unpackOf packed .device) .device) → CalledOn (checkedC call packed) packed r packed′
+unfolding checkedC
+carried-on call packed z y e p =
+    let x : unpackAnswer packed ≡ 0 = sym (named packed) ∙ z in
+    rw x (record { answer = rw y e; bytes = rw y p })
+
+-- a sound record is waited and powered up with answer 0, and stays sound
+pub waits : (d : Device) (t : ℕ) → sound d ≡ true → (waitCall d t .answer ≡ 0) × (sound (waitCall d t .device) ≡ true)
+unfolding waitCall soundAnswer
+waits d t s = (rw s, wait-sound d t s)
+
+pub powers : (d : Device) → sound d ≡ true → (powerUpCall d .answer ≡ 0) × (sound (powerUpCall d .device) ≡ true)
+unfolding powerUpCall soundAnswer
+powers d s = (rw s, power-up-sound d s)
+
+pub one-call-on : {c : Checked} {packed packed′ packed″ : List ℕ} {r s : ℕ} → CalledOn c packed r packed′ → CalledOn c packed s packed″ → (r ≡ s) × (packed′ ≡ packed″)
+one-call-on p q = (p .answer ∙ sym (q .answer), p .bytes ∙ sym (q .bytes))
+
+-- ---- delivery
+
+-- another length of the packed bytes
+pub another-length : (packed : List ℕ) (part : ℕ) (array : List ℕ) (p s b t : ℕ) {r : ℕ} → (length packed ≡ 28 → ⊥) → r ≡ packedAnswer (bare 8) → DeliveredC packed part array p s b t r packed array
+unfolding deliveryC
+another-length packed part array p s b t n e = record { answer = rw (ne-eqb (length packed) 28 n) e; bytes = rw (ne-eqb (length packed) 28 n); memory = rw (ne-eqb (length packed) 28 n) }
+
+-- 28 bytes: what the delivery answers
+pub delivers : (packed : List ℕ) (part : ℕ) (array : List ℕ) (p s b t : ℕ) {r : ℕ} {packed′ array′ : List ℕ} {c : Checked} → length packed ≡ 28 → Delivered part array p s b t c array′ → r ≡ packedAnswer (bare (c .answer))
+    → packed′ ≡ packedBy (c .answer) (delivered part p s b t) packed → DeliveredC packed part array p s b t r packed′ array′
+unfolding deliveryC
+delivers packed part array p s b t {r} {packed′} {array′} {c} l d e q =
+    let y : deliveryC packed part (length array) p s b t ≡ deliveryAnswer part (length array) p s b t = rw (eq-eqb (length packed) 28 l) in
+    let z : c .answer ≡ deliveryC packed part (length array) p s b t = d .answer ∙ sym y in
+    record {
+      answer = e ∙ ap (λ (k : ℕ). packedAnswer (bare k)) z;
+      bytes = q ∙ ap (λ (k : ℕ). packedBy k (delivered part p s b t) packed) z;
+      memory = d .memory ∙ ap (λ (k : ℕ). arrayBy k array) (sym y);
+    }
+
+-- an executed delivery gives the record as delivered, which is sound
+pub as-delivered : (part : ℕ) (array : List ℕ) (p s b t : ℕ) {c : Checked} {array′ : List ℕ} → Delivered part array p s b t c array′ → c .answer ≡ 0 → (c .device ≡ delivered part p s b t) × (sound (c .device) ≡ true)
+unfolding deliveryAnswer
+as-delivered part array p s b t {c} d z =
+    let y : deliveryAnswer part (length array) p s b t ≡ 0 = sym (d .answer) ∙ z in
+    let e : c .device ≡ delivered part p s b t = d .device ∙ ap (λ (k : ℕ). recordBy k (delivered part p s b t)) y in
+    (e, rw e (all part (length array) p s b t y))
+  where
+    past : (x : Bool) (k y : ℕ) → cond (not x) (suc k) y ≡ 0 → (x ≡ true) × (y ≡ 0)
+    past true k y h = (refl, h)
+    past false k y h = let z : _≡_ {A = ℕ} (suc k) 0 = h in absurd (omega arith)
+
+    all : (part array p s b t : ℕ) → deliveryAnswer part array p s b t ≡ 0 → sound (delivered part p s b t) ≡ true
+    all part array p s b t h =
+        let one = past (knownPart part) 0 (cond (not (eqb array (figuresOf part .bytes))) 2 (cond (not (rangedOf p && rangedOf s && rangedOf b && rangedOf t)) 7 0)) h in
+        let two = past (eqb array (figuresOf part .bytes)) 1 (cond (not (rangedOf p && rangedOf s && rangedOf b && rangedOf t)) 7 0) (one .1) in
+        let seven = past (rangedOf p && rangedOf s && rangedOf b && rangedOf t) 6 0 (two .1) in
+        let q = both (rangedOf p && rangedOf s && rangedOf b) (rangedOf t) (seven .0) in
+        let r = both (rangedOf p && rangedOf s) (rangedOf b) (q .0) in
+        let u = both (rangedOf p) (rangedOf s) (r .0) in
+        delivered-sound part p s b t (one .0) (u .0) (u .1) (r .1) (q .1)
+
+pub one-delivery : {packed : List ℕ} {part : ℕ} {array : List ℕ} {p s b t q r : ℕ} {packed′ packed″ array′ array″ : List ℕ} → DeliveredC packed part array p s b t q packed′ array′ → DeliveredC packed part array p s b t r packed″ array″
+    → (q ≡ r) × (packed′ ≡ packed″) × (array′ ≡ array″)
+one-delivery p q = (p .answer ∙ sym (q .answer), p .bytes ∙ sym (q .bytes), p .memory ∙ sym (q .memory))
+
+-- ---- the three numbers of an answer can be taken out again
+
+pub taken-apart : (a : Answer) → a .number < 256 → a .first < 256 → (packedAnswer a % 256 ≡ a .number) × (packedAnswer a / 256 % 256 ≡ a .first) × (packedAnswer a / 65536 ≡ a .count)
+unfolding packedAnswer
+taken-apart a h k = (omega arith, omega arith, omega arith)

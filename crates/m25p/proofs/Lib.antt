@@ -1,0 +1,2 @@
+-- Laws of the C calls.
+pub mod Laws

@@ -1,0 +1,82 @@
+use mathlib.Core.Path.{_≡_, refl, sym, ap, _∙_}
+use Prim.Native.Nat.{ℕ}
+use Rattle.device.specs.declared.Device.{Device}
+use Rattle.device.specs.declared.Checked.{Checked}
+use Rattle.device.specs.Device.{powerUpCall}
+use Rattle.device.specs.Packing.{packOf, unpackOf}
+use Rattle.device.proofs.Inverse.{opened}
+use Rattle.chip.specs.Outcome.{bare}
+use Rattle.m25p.specs.Calls.{packedAnswer}
+use Rattle.m25p.proofs.Laws.{unpacked-sound, packs, refused-on, carried-on, powers}
+use borrow.Author.Needs.{needs}
+use Rattle.m25p.proofs.m25p_power_up.Statement.{statement}
+use Rattle.m25p.proofs.m25p_power_up.Tie as tie
+use Rattle.m25p.proofs.m25p_power_up.Reads as reads
+use Rattle.m25p.proofs.m25p_power_up.Lts as lts
+use Rattle.device.proofs.Device.power_up.Reads as power-up-reads
+use Rattle.device.proofs.packing.pack.Reads as pack-reads
+use Rattle.device.proofs.packing.unpack.Reads as unpack-reads
+use Rattle.m25p.proofs.bare.Reads as bare-reads
+
+-- src/lib.rt:80:9
+unpack-requires : tie.Need-unpack-requires
+unpack-requires c κs = search needs
+
+-- src/lib.rt:82:9
+bare-requires : tie.Need-bare-requires
+bare-requires c κs = search needs
+
+-- src/lib.rt:82:9
+same-length : tie.Need-same-length
+same-length c = search needs
+
+-- src/lib.rt:82:9
+returns : tie.Need-returns
+returns c =
+    let u = c .before .before .before .unpack in
+    let a = c .before .before .before .before .before .before .args in
+    let e = ap (λ (x : Checked). x .answer) (u .ensures) in
+    refused-on powerUpCall (a .packed .now) (λ z. c .before .if1 .taken (e ∙ z)) (c .bare .ensures ∙ ap (λ (k : ℕ). packedAnswer (bare k)) e)
+
+-- src/lib.rt:84:9
+power-up-requires : tie.Need-power-up-requires
+power-up-requires c κs = search needs
+
+-- src/lib.rt:85:5
+pack-requires : tie.Need-pack-requires
+pack-requires c κs = search needs
+
+-- src/lib.rt:86:5
+bare-requires-2 : tie.Need-bare-requires-2
+bare-requires-2 c κs = search needs
+
+-- src/lib.rt:76:1
+same-length-2 : tie.Need-same-length-2
+same-length-2 c = search needs
+
+-- src/lib.rt:76:1
+returns-2 : tie.Need-returns-2
+returns-2 c =
+    let b = c .before .before .before .before .before in
+    let u = b .before .before .before .unpack in
+    let a = b .before .before .before .before .before .before .args in
+    let d = unpackOf (a .packed .now) .device in
+    let z : unpackOf (a .packed .now) .answer ≡ 0 = sym (ap (λ (x : Checked). x .answer) (u .ensures)) ∙ b .before .if1 .left in
+    let w = powers d (unpacked-sound (a .packed .now) z) in
+    let n : b .power-up .result .device ≡ powerUpCall d .device =
+    ap (λ (x : Checked). x .device) (b .power-up .ensures) ∙ ap (λ (x : Checked). powerUpCall (x .device) .device) (u .ensures) in
+    carried-on powerUpCall (a .packed .now) z (w .0) (c .bare2 .ensures) (packs (c .before .before .before .pack .ensures) (opened (a .packed .now) z .long) (rw n (w .1)) ∙ ap packOf n)
+
+pub m25p-power-up-spec : {M : Type 1} → statement M
+m25p-power-up-spec =
+    tie.close
+    (tie.spec
+    unpack-requires
+    bare-requires
+    same-length
+    returns
+    power-up-requires
+    pack-requires
+    bare-requires-2
+    same-length-2
+    returns-2)

@@ -1,0 +1,2 @@
+-- What the C calls mean.
+pub mod Calls

@@ -1,0 +1,103 @@
+// The C calls: delivery, transaction, wait and power-up over the 28 packed bytes of a record.
+ghost use mathlib.Core.Path.{_≡_};
+ghost use Rattle.device.specs.Device.{waitCall, powerUpCall};
+ghost use Rattle.m25p.specs.Calls.{packedAnswer, transactedC, Called, checkedC, CalledOn, DeliveredC};
+ghost use Rattle.chip.specs.Outcome;
+use chip::Answer;
+use device::packing::pack;
+use device::packing::unpack;
+
+// The three numbers of an answer in one.
+fn in_one(answer: Answer) -> u64
+    ensures { λ r. ⌜ r ≡ packedAnswer answer ⌝ }
+{
+    (answer.number as u64) + 256 * (answer.first as u64) + 65536 * (answer.count as u64)
+}
+
+// An answer with nothing driven.
+fn bare(number: u8) -> u64
+    ensures { λ r. ⌜ r ≡ packedAnswer (Outcome.bare number) ⌝ }
+{
+    in_one(Answer {
+        number,
+        first: 0,
+        count: 0,
+    })
+}
+
+// Delivers a part: the packed record is written and the array becomes FF.
+#[no_mangle]
+pub extern "C" fn m25p_deliver(
+    packed: &mut [u8],
+    part: u32,
+    array: &mut [u8],
+    program: u32,
+    sector_erase: u32,
+    bulk_erase: u32,
+    write_status: u32,
+) -> u64
+    ensures { λ r. ⌜ DeliveredC (now (packed .entry)) part (now (array .entry)) program «sector_erase» «bulk_erase» «write_status» r (now (packed .exit)) (now (array .exit)) ⌝ }
+{
+    if packed.len() != 28 {
+        return bare(8);
+    }
+    let done = chip::deliver(part, array, program, sector_erase, bulk_erase, write_status);
+    if done.answer == 0 {
+        pack(done.device, packed);
+        return bare(0);
+    }
+    bare(done.answer)
+}
+
+// One transaction: W is low for 0, else high.
+#[no_mangle]
+pub extern "C" fn m25p_transact(
+    packed: &mut [u8],
+    array: &mut [u8],
+    sent: &[u8],
+    pulses: u32,
+    w: u32,
+    response: &mut [u8],
+) -> u64
+    ensures { λ r. ⌜ Called (transactedC (now (packed .entry)) (now (array .entry)) (now (sent .entry)) pulses w (now (response .entry))) (now (packed .entry)) r (now (packed .exit)) (now (array .exit)) (now (response .exit)) ⌝ }
+{
+    let came = unpack(packed);
+    if came.answer != 0 {
+        return bare(came.answer);
+    }
+    let done = chip::transact(came.device, array, sent, pulses, w != 0, response);
+    let answer = done.answer;
+    if answer.number == 0 {
+        pack(done.device, packed);
+        return in_one(answer);
+    }
+    in_one(answer)
+}
+
+// Waits `ticks`.
+#[no_mangle]
+pub extern "C" fn m25p_wait(packed: &mut [u8], ticks: u32) -> u64
+    ensures { λ r. ⌜ CalledOn (checkedC (λ d. waitCall d ticks) (now (packed .entry))) (now (packed .entry)) r (now (packed .exit)) ⌝ }
+{
+    let came = unpack(packed);
+    if came.answer != 0 {
+        return bare(came.answer);
+    }
+    let done = came.device.wait(ticks);
+    pack(done.device, packed);
+    bare(0)
+}
+
+// Powers up.
+#[no_mangle]
+pub extern "C" fn m25p_power_up(packed: &mut [u8]) -> u64
+    ensures { λ r. ⌜ CalledOn (checkedC powerUpCall (now (packed .entry))) (now (packed .entry)) r (now (packed .exit)) ⌝ }
+{
+    let came = unpack(packed);
+    if came.answer != 0 {
+        return bare(came.answer);
+    }
+    let done = came.device.power_up();
+    pack(done.device, packed);
+    bare(0)
+}

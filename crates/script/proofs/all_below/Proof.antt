@@ -1,0 +1,60 @@
+-- `all_below` meets its contract: the invariant: the characters passed and those to come give the whole.
+use mathlib.Core.Path.{_≡_, refl, sym, ap, _∙_}
+use mathlib.Core.Bool.{true, _&&_, and-true}
+use Prim.Native.Nat.{_≤_, _<_, _-_}
+use native.Mathlib.Omega.{arith}
+use lib.ListN.{length, getD, drop, drop-of-length-le}
+use Rattle.script.specs.Lines.{allBelow, digitOf}
+use Rattle.script.proofs.Reading.{all-next}
+use borrow.Author.Needs.{needs}
+use Rattle.script.proofs.all_below.Statement.{statement}
+use Rattle.script.proofs.all_below.Tie as tie
+
+abbrev Inv-loop : tie.InvT-loop
+Inv-loop base text all₀ i₀ all i = (i ≤ length text) × (all && allBelow base (drop i text) ≡ allBelow base text)
+
+abbrev μ-loop : tie.MeasureT-loop
+μ-loop base text all₀ i₀ all i = length text - i
+
+loop-holds : tie.Need-loop-holds Inv-loop μ-loop
+loop-holds c = search needs
+
+shared-slice-read-digit : tie.Need-shared-slice-read-digit Inv-loop μ-loop
+shared-slice-read-digit c = search needs
+
+digit-requires : tie.Need-digit-requires Inv-loop μ-loop
+digit-requires c κs = search needs
+
+add-i : tie.Need-add-i Inv-loop μ-loop
+add-i c = search needs
+
+loop-less : tie.Need-loop-less Inv-loop μ-loop
+loop-less c = search needs
+
+loop-again : tie.Need-loop-again Inv-loop μ-loop
+loop-again c =
+    let a = c .before .before .before .before .before .args in
+    let l = c .before .before .before .loop in
+    let h : l .i < length (a .text .now) = omega arith in
+    (omega arith, rw (c .digit .ensures) (all-next (a .base) (a .text .now) (l .i) (l .all) h ∙ l .inv .1))
+
+returns : tie.Need-returns Inv-loop μ-loop
+returns c =
+    let a = c .before .before .before .args in
+    let l = c .before .loop in
+    sym (and-true (l .all))
+    ∙ rw (drop-of-length-le (a .text .now) {i = l .i} (omega arith)) at (l .inv .1)
+
+pub all-below-spec : {M : Type 1} → statement M
+all-below-spec =
+    tie.close
+    (tie.spec
+    Inv-loop
+    μ-loop
+    loop-holds
+    shared-slice-read-digit
+    digit-requires
+    add-i
+    loop-less
+    loop-again
+    returns)
