@@ -1,47 +1,34 @@
-use mathlib.Core.Path.{_≡_, refl, sym, ap, _∙_}
+-- `chip::deliver` meets its contract.
+use mathlib.Core.Path.{refl, sym, _∙_}
 use Rattle.device.specs.Device.{delivered}
 use Rattle.chip.proofs.Laws.{refused-delivery, executed-delivery, small}
 use borrow.Author.Needs.{needs}
 use Rattle.chip.proofs.deliver.Statement.{statement}
 use Rattle.chip.proofs.deliver.Tie as tie
-use Rattle.chip.proofs.deliver.Reads as reads
-use Rattle.chip.proofs.deliver.Lts as lts
-use Rattle.chip.proofs.delivery_number.Reads as delivery-number-reads
-use Rattle.device.proofs.Device.delivered.Reads as delivered-reads
-use Rattle.device.proofs.Device.zero.Reads as zero-reads
-use Rattle.memory.proofs.erase_all.Reads as erase-all-reads
 
--- src/lib.rt:112:9
 delivery-number-requires : tie.Need-delivery-number-requires
 delivery-number-requires c κs = search needs
 
--- src/lib.rt:121:13
 zero-requires : tie.Need-zero-requires
 zero-requires c κs = search needs
 
--- src/lib.rt:122:9
 returns : tie.Need-returns
 returns c =
     let a = c .before .before .before .before .args in
     refused-delivery (a .part) (a .array .now) _ _ _ _ (c .before .before .delivery-number .result) (c .before .before .delivery-number .ensures) (c .before .if1 .taken) refl (c .zero .ensures)
 
--- src/lib.rt:127:17
 cast-small : tie.Need-cast-small
 cast-small c = search needs
 
--- src/lib.rt:128:5
 erase-all-requires : tie.Need-erase-all-requires
 erase-all-requires c κs = search needs
 
--- src/lib.rt:129:9
 delivered-requires : tie.Need-delivered-requires
 delivered-requires c κs = search needs
 
--- src/lib.rt:109:1
 same-length : tie.Need-same-length
 same-length c = search needs
 
--- src/lib.rt:109:1
 returns-2 : tie.Need-returns-2
 returns-2 c =
     let b = c .before .before .before .before .before .before in

@@ -1,61 +1,44 @@
+-- `chip::delivery_number` meets its contract.
 use mathlib.Core.Path.{sym, _∙_}
 use Rattle.chip.specs.Answers.{deliveryAnswer}
 use Rattle.chip.proofs.Laws.{large}
 use borrow.Author.Needs.{needs}
 use Rattle.chip.proofs.delivery_number.Statement.{statement}
 use Rattle.chip.proofs.delivery_number.Tie as tie
-use Rattle.chip.proofs.delivery_number.Reads as reads
-use Rattle.chip.proofs.delivery_number.Lts as lts
-use Rattle.device.proofs.ranged.Reads as ranged-reads
-use Rattle.parts.proofs.Figures.of.Reads as of-reads
-use Rattle.parts.proofs.known.Reads as known-reads
-use Rattle.slices.proofs.when.Reads as when-reads
 
--- src/lib.rt:94:9
 returns : tie.Need-returns
 returns c = sym (large _ _ _ _ _ _ (c .if1 .taken))
 
--- src/lib.rt:96:17
 cast-small : tie.Need-cast-small
 cast-small c = search needs
 
--- src/lib.rt:97:9
 known-requires : tie.Need-known-requires
 known-requires c κs = search needs
 
--- src/lib.rt:98:9
 of-requires : tie.Need-of-requires
 of-requires c κs = search needs
 
--- src/lib.rt:99:9
 ranged-requires : tie.Need-ranged-requires
 ranged-requires c κs = search needs
 
--- src/lib.rt:100:9
 ranged-requires-2 : tie.Need-ranged-requires-2
 ranged-requires-2 c κs = search needs
 
--- src/lib.rt:101:9
 ranged-requires-3 : tie.Need-ranged-requires-3
 ranged-requires-3 c κs = search needs
 
--- src/lib.rt:102:9
 ranged-requires-4 : tie.Need-ranged-requires-4
 ranged-requires-4 c κs = search needs
 
--- src/lib.rt:103:9
 when-requires : tie.Need-when-requires
 when-requires c κs = search needs
 
--- src/lib.rt:104:9
 when-requires-2 : tie.Need-when-requires-2
 when-requires-2 c κs = search needs
 
--- src/lib.rt:105:5
 when-requires-3 : tie.Need-when-requires-3
 when-requires-3 c κs = search needs
 
--- src/lib.rt:90:1
 returns-2 : tie.Need-returns-2
 unfolding deliveryAnswer
 returns-2 c =

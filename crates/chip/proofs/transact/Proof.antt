@@ -1,4 +1,5 @@
-use mathlib.Core.Path.{_≡_, refl, sym, ap, _∙_}
+-- `chip::transact` meets its contract.
+use mathlib.Core.Path.{refl, sym, _∙_}
 use native.Mathlib.Nat.{zero-add}
 use Rattle.chip.specs.Outcome.{outcomeOf}
 use Rattle.chip.proofs.Laws.{by-verdict}
@@ -7,26 +8,16 @@ use Rattle.chip.specs.declared.answers.Verdict.the-variants.{Refused, Ig
 use borrow.Author.Needs.{needs}
 use Rattle.chip.proofs.transact.Statement.{statement}
 use Rattle.chip.proofs.transact.Tie as tie
-use Rattle.chip.proofs.transact.Reads as reads
-use Rattle.chip.proofs.transact.Lts as lts
-use Rattle.chip.proofs.answers.judge.Reads as judge-reads
-use Rattle.chip.proofs.bare.Reads as bare-reads
-use Rattle.chip.proofs.execute.Reads as execute-reads
-use Rattle.slices.proofs.fill_part.Reads as fill-part-reads
 
--- src/lib.rt:71:9
 judge-requires : tie.Need-judge-requires
 judge-requires c κs = search needs
 
--- src/lib.rt:73:26
 enum-known-verdict : tie.Need-enum-known-verdict
 enum-known-verdict c = search needs
 
--- src/lib.rt:74:17
 bare-requires : tie.Need-bare-requires
 bare-requires c κs = search needs
 
--- src/lib.rt:75:13
 returns : tie.Need-returns
 unfolding outcomeOf
 returns c =
@@ -34,23 +25,18 @@ returns c =
     by-verdict (a .device) (a .array .now) (a .sent .now) (a .pulses) (a .w) (a .response .now) (Refused _) (sym (c .before .before .before .before .judge .ensures) ∙ c .before .before .verdict .given .1)
     (record { answer = c .bare .ensures; device = refl; memory = refl; line = refl })
 
--- src/lib.rt:77:26
 enum-known-verdict-2 : tie.Need-enum-known-verdict-2
 enum-known-verdict-2 c = search needs
 
--- src/lib.rt:79:13
 fill-part-requires : tie.Need-fill-part-requires
 fill-part-requires c κs = search needs
 
--- src/lib.rt:80:17
 bare-requires-2 : tie.Need-bare-requires-2
 bare-requires-2 c κs = search needs
 
--- src/lib.rt:81:13
 same-length : tie.Need-same-length
 same-length c = search needs
 
--- src/lib.rt:81:13
 returns-2 : tie.Need-returns-2
 unfolding outcomeOf
 returns-2 c =
@@ -59,25 +45,20 @@ returns-2 c =
     by-verdict (a .device) (a .array .now) (a .sent .now) (a .pulses) (a .w) (a .response .now) (Ignored _) (sym (b .judge .ensures) ∙ c .before .before .before .before .before .before .verdict2 .given .1)
     (record { answer = c .bare2 .ensures; device = refl; memory = refl; line = c .before .before .before .fill-part .ensures ∙ rw zero-add })
 
--- src/lib.rt:84:36
 enum-told : tie.Need-enum-told
 enum-told c = search needs
 
--- src/lib.rt:84:13
 execute-requires : tie.Need-execute-requires
 execute-requires c κs =
     let a = c .before .before .before .before .before .before .before .before .args in
     executed _ _ _ _ _ _ (sym (c .before .before .before .before .judge .ensures) ∙ c .before .before .enum-told .given .1) .0 .short
 
--- src/lib.rt:84:13
 same-length-2 : tie.Need-same-length-2
 same-length-2 c = search needs
 
--- src/lib.rt:84:13
 same-length-3 : tie.Need-same-length-3
 same-length-3 c = search needs
 
--- src/lib.rt:84:13
 returns-3 : tie.Need-returns-3
 returns-3 c =
     let b = c .before .before .before .before .before .before .before .before .before in

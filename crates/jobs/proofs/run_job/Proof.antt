@@ -1,56 +1,40 @@
+-- `jobs::run_job` meets its contract.
 use mathlib.Core.Path.{sym, _∙_}
 use borrow.Author.Needs.{needs}
 use Rattle.jobs.proofs.Calls.{job-refused, job-passes}
 use Rattle.jobs.proofs.run_job.Statement.{statement}
 use Rattle.jobs.proofs.run_job.Tie as tie
-use Rattle.jobs.proofs.run_job.Reads as reads
-use Rattle.jobs.proofs.run_job.Lts as lts
-use Rattle.chip.proofs.answers.refused.Reads as refused-reads
-use Rattle.chip.proofs.transact.Reads as transact-reads
-use Rattle.device.proofs.Device.wait.Reads as wait-reads
-use Rattle.jobs.proofs.alone.Reads as alone-reads
-use Rattle.jobs.proofs.longest_cycle.Reads as longest-cycle-reads
 
--- src/lib.rt:43:9
 refused-requires : tie.Need-refused-requires
 refused-requires c κs = search needs
 
--- src/lib.rt:50:9
 returns : tie.Need-returns
 returns c =
     let b = c .before in
     let a = b .before .before .before .before .args in
     job-refused (a .device) (a .array .now) (a .sent .now) (a .pulses) (a .w) (a .response .now) (b .refused .result) (b .refused .ensures) (c .if1 .taken)
 
--- src/lib.rt:52:9
 longest-cycle-requires : tie.Need-longest-cycle-requires
 longest-cycle-requires c κs = search needs
 
--- src/lib.rt:53:9
 alone-requires : tie.Need-alone-requires
 alone-requires c κs = search needs
 
--- src/lib.rt:54:9
 transact-requires : tie.Need-transact-requires
 transact-requires c κs = search needs
 
--- src/lib.rt:57:9
 wait-requires : tie.Need-wait-requires
 wait-requires c κs = search needs
 
--- src/lib.rt:59:9
 alone-requires-2 : tie.Need-alone-requires-2
 alone-requires-2 c κs = search needs
 
--- src/lib.rt:40:1
 same-length : tie.Need-same-length
 same-length c = search needs
 
--- src/lib.rt:40:1
 same-length-2 : tie.Need-same-length-2
 same-length-2 c = search needs
 
--- src/lib.rt:40:1
 returns-2 : tie.Need-returns-2
 returns-2 c =
     let last = c .before .before .alone2 .ensures in

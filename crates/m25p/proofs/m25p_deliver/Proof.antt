@@ -1,50 +1,37 @@
-use mathlib.Core.Path.{_≡_, refl, sym, ap, _∙_}
+-- `m25p::m25p_deliver` meets its contract.
+use mathlib.Core.Path.{_≡_, sym, ap, _∙_}
 use Prim.Native.Nat.{ℕ}
 use lib.ListN.{length}
-use Rattle.device.specs.declared.Checked.{Checked}
 use Rattle.chip.specs.Outcome.{bare}
 use Rattle.m25p.specs.Calls.{packedAnswer}
 use Rattle.m25p.proofs.Laws.{packs, written, kept, another-length, delivers, as-delivered}
 use borrow.Author.Needs.{needs}
 use Rattle.m25p.proofs.m25p_deliver.Statement.{statement}
 use Rattle.m25p.proofs.m25p_deliver.Tie as tie
-use Rattle.m25p.proofs.m25p_deliver.Reads as reads
-use Rattle.m25p.proofs.m25p_deliver.Lts as lts
-use Rattle.chip.proofs.deliver.Reads as deliver-reads
-use Rattle.device.proofs.packing.pack.Reads as pack-reads
-use Rattle.m25p.proofs.bare.Reads as bare-reads
 
--- src/lib.rt:33:9
 bare-requires : tie.Need-bare-requires
 bare-requires c κs = search needs
 
--- src/lib.rt:33:9
 returns : tie.Need-returns
 returns c =
     let a = c .before .before .before .before .args in
     another-length (a .packed .now) (a .part) (a .array .now) _ _ _ _ (c .before .if1 .taken) (c .bare .ensures)
 
--- src/lib.rt:35:9
 deliver-requires : tie.Need-deliver-requires
 deliver-requires c κs = search needs
 
--- src/lib.rt:37:9
 pack-requires : tie.Need-pack-requires
 pack-requires c κs = search needs
 
--- src/lib.rt:38:9
 bare-requires-2 : tie.Need-bare-requires-2
 bare-requires-2 c κs = search needs
 
--- src/lib.rt:38:9
 same-length : tie.Need-same-length
 same-length c = search needs
 
--- src/lib.rt:38:9
 same-length-2 : tie.Need-same-length-2
 same-length-2 c = search needs
 
--- src/lib.rt:38:9
 returns-2 : tie.Need-returns-2
 returns-2 c =
     let b = c .before .before .before .before .before .before .before .before .before in
@@ -55,15 +42,12 @@ returns-2 c =
     delivers (a .packed .now) (a .part) (a .array .now) _ _ _ _ l (b .deliver .ensures) (c .bare2 .ensures ∙ ap (λ (k : ℕ). packedAnswer (bare k)) (sym z))
     (written _ (a .packed .now) z (d .0) (packs (c .before .before .before .pack .ensures) l (d .1)))
 
--- src/lib.rt:40:5
 bare-requires-3 : tie.Need-bare-requires-3
 bare-requires-3 c κs = search needs
 
--- src/lib.rt:28:1
 same-length-3 : tie.Need-same-length-3
 same-length-3 c = search needs
 
--- src/lib.rt:28:1
 returns-3 : tie.Need-returns-3
 returns-3 c =
     let b = c .before .before .before .before .before in

@@ -1,9 +1,8 @@
+-- `m25p::m25p_transact` meets its contract.
 use mathlib.Core.Path.{_≡_, refl, sym, ap, _∙_}
-use mathlib.Core.List.{List}
 use Prim.Native.Nat.{ℕ}
-use Rattle.device.specs.declared.Device.{Device}
 use Rattle.device.specs.declared.Checked.{Checked}
-use Rattle.device.specs.Packing.{packOf, unpackOf}
+use Rattle.device.specs.Packing.{unpackOf}
 use Rattle.device.proofs.Inverse.{opened}
 use Rattle.chip.specs.Outcome.{bare, transacted, Meets}
 use Rattle.m25p.specs.Calls.{packedAnswer, high}
@@ -11,27 +10,16 @@ use Rattle.m25p.proofs.Laws.{packs, written, refused, carried, next-sou
 use borrow.Author.Needs.{needs}
 use Rattle.m25p.proofs.m25p_transact.Statement.{statement}
 use Rattle.m25p.proofs.m25p_transact.Tie as tie
-use Rattle.m25p.proofs.m25p_transact.Reads as reads
-use Rattle.m25p.proofs.m25p_transact.Lts as lts
-use Rattle.chip.proofs.transact.Reads as transact-reads
-use Rattle.device.proofs.packing.pack.Reads as pack-reads
-use Rattle.device.proofs.packing.unpack.Reads as unpack-reads
-use Rattle.m25p.proofs.bare.Reads as bare-reads
-use Rattle.m25p.proofs.in_one.Reads as in-one-reads
 
--- src/lib.rt:48:9
 unpack-requires : tie.Need-unpack-requires
 unpack-requires c κs = search needs
 
--- src/lib.rt:50:9
 bare-requires : tie.Need-bare-requires
 bare-requires c κs = search needs
 
--- src/lib.rt:50:9
 same-length : tie.Need-same-length
 same-length c = search needs
 
--- src/lib.rt:50:9
 returns : tie.Need-returns
 returns c =
     let u = c .before .before .before .unpack in
@@ -39,31 +27,24 @@ returns c =
     let e = ap (λ (x : Checked). x .answer) (u .ensures) in
     refused (a .packed .now) (a .array .now) (a .sent .now) (a .pulses) (a .w) (a .response .now) (λ z. c .before .if1 .taken (e ∙ z)) (c .bare .ensures ∙ ap (λ (k : ℕ). packedAnswer (bare k)) e)
 
--- src/lib.rt:52:9
 transact-requires : tie.Need-transact-requires
 transact-requires c κs = search needs
 
--- src/lib.rt:55:9
 pack-requires : tie.Need-pack-requires
 pack-requires c κs = search needs
 
--- src/lib.rt:56:9
 in-one-requires : tie.Need-in-one-requires
 in-one-requires c κs = search needs
 
--- src/lib.rt:56:9
 same-length-2 : tie.Need-same-length-2
 same-length-2 c = search needs
 
--- src/lib.rt:56:9
 same-length-3 : tie.Need-same-length-3
 same-length-3 c = search needs
 
--- src/lib.rt:56:9
 same-length-4 : tie.Need-same-length-4
 same-length-4 c = search needs
 
--- src/lib.rt:56:9
 returns-2 : tie.Need-returns-2
 returns-2 c =
     let t = c .before .before .before .before .before .before .before .before .before .before .before .before in
@@ -77,23 +58,18 @@ returns-2 c =
     carried (a .packed .now) (a .array .now) (a .sent .now) (a .pulses) (a .w) (a .response .now) z m (c .in-one .ensures)
     (written (t .transact .result .answer .number) (a .packed .now) (c .before .before .before .before .before .if2 .taken) refl (packs (c .before .before .before .pack .ensures) (opened (a .packed .now) z .long) s))
 
--- src/lib.rt:58:5
 in-one-requires-2 : tie.Need-in-one-requires-2
 in-one-requires-2 c κs = search needs
 
--- src/lib.rt:44:1
 same-length-5 : tie.Need-same-length-5
 same-length-5 c = search needs
 
--- src/lib.rt:44:1
 same-length-6 : tie.Need-same-length-6
 same-length-6 c = search needs
 
--- src/lib.rt:44:1
 same-length-7 : tie.Need-same-length-7
 same-length-7 c = search needs
 
--- src/lib.rt:44:1
 returns-3 : tie.Need-returns-3
 returns-3 c =
     let t = c .before .before .before .before .before .before .before .before in

@@ -1,6 +1,6 @@
-use mathlib.Core.Path.{_≡_, refl, sym, ap, _∙_}
+-- `m25p::m25p_wait` meets its contract.
+use mathlib.Core.Path.{_≡_, sym, ap, _∙_}
 use Prim.Native.Nat.{ℕ}
-use Rattle.device.specs.declared.Device.{Device}
 use Rattle.device.specs.declared.Checked.{Checked}
 use Rattle.device.specs.Device.{waitCall}
 use Rattle.device.specs.Packing.{packOf, unpackOf}
@@ -11,26 +11,16 @@ use Rattle.m25p.proofs.Laws.{unpacked-sound, packs, refused-on, carried
 use borrow.Author.Needs.{needs}
 use Rattle.m25p.proofs.m25p_wait.Statement.{statement}
 use Rattle.m25p.proofs.m25p_wait.Tie as tie
-use Rattle.m25p.proofs.m25p_wait.Reads as reads
-use Rattle.m25p.proofs.m25p_wait.Lts as lts
-use Rattle.device.proofs.Device.wait.Reads as wait-reads
-use Rattle.device.proofs.packing.pack.Reads as pack-reads
-use Rattle.device.proofs.packing.unpack.Reads as unpack-reads
-use Rattle.m25p.proofs.bare.Reads as bare-reads
 
--- src/lib.rt:66:9
 unpack-requires : tie.Need-unpack-requires
 unpack-requires c κs = search needs
 
--- src/lib.rt:68:9
 bare-requires : tie.Need-bare-requires
 bare-requires c κs = search needs
 
--- src/lib.rt:68:9
 same-length : tie.Need-same-length
 same-length c = search needs
 
--- src/lib.rt:68:9
 returns : tie.Need-returns
 returns c =
     let u = c .before .before .before .unpack in
@@ -38,23 +28,18 @@ returns c =
     let e = ap (λ (x : Checked). x .answer) (u .ensures) in
     refused-on (λ d. waitCall d (a .ticks)) (a .packed .now) (λ z. c .before .if1 .taken (e ∙ z)) (c .bare .ensures ∙ ap (λ (k : ℕ). packedAnswer (bare k)) e)
 
--- src/lib.rt:70:9
 wait-requires : tie.Need-wait-requires
 wait-requires c κs = search needs
 
--- src/lib.rt:71:5
 pack-requires : tie.Need-pack-requires
 pack-requires c κs = search needs
 
--- src/lib.rt:72:5
 bare-requires-2 : tie.Need-bare-requires-2
 bare-requires-2 c κs = search needs
 
--- src/lib.rt:62:1
 same-length-2 : tie.Need-same-length-2
 same-length-2 c = search needs
 
--- src/lib.rt:62:1
 returns-2 : tie.Need-returns-2
 returns-2 c =
     let b = c .before .before .before .before .before in

@@ -1,3 +1,4 @@
+-- `memory::fill_slots` meets its contract.
 use mathlib.Core.Path.{_≡_, sym, _∙_}
 use Prim.Native.Nat.{_+_, _-_, _≤_, _<_}
 use native.Mathlib.Nat.{add-zero}
@@ -8,8 +9,6 @@ use Rattle.memory.proofs.Laws.{latched-next, latched-end}
 use borrow.Author.Needs.{needs}
 use Rattle.memory.proofs.fill_slots.Statement.{statement}
 use Rattle.memory.proofs.fill_slots.Tie as tie
-use Rattle.memory.proofs.fill_slots.Reads as reads
-use Rattle.memory.proofs.fill_slots.Lts as lts
 
 abbrev Inv-loop : tie.InvT-loop
 Inv-loop bytes address slots₀ first i₀ slots i = (i ≤ length bytes) × (length slots ≡ 256) × (latched slots (address + i) (drop i bytes) ≡ latched slots₀ address bytes)
@@ -17,31 +16,24 @@ Inv-loop bytes address slots₀ first i₀ slots i = (i ≤ length bytes) × (le
 abbrev μ-loop : tie.MeasureT-loop
 μ-loop bytes address slots₀ first i₀ slots i = length bytes - i
 
--- src/lib.rt:15:5
 loop-holds : tie.Need-loop-holds Inv-loop μ-loop
 loop-holds c = (search needs, search needs, rw add-zero)
 
--- src/lib.rt:16:36
 shared-slice-read-slots : tie.Need-shared-slice-read-slots Inv-loop μ-loop
 shared-slice-read-slots c = search needs
 
--- src/lib.rt:16:16
 add-slots : tie.Need-add-slots Inv-loop μ-loop
 add-slots c = search needs
 
--- src/lib.rt:16:9
 array-write-slots : tie.Need-array-write-slots Inv-loop μ-loop
 array-write-slots c = search needs
 
--- src/lib.rt:17:9
 add-i : tie.Need-add-i Inv-loop μ-loop
 add-i c = search needs
 
--- src/lib.rt:15:5
 loop-less : tie.Need-loop-less Inv-loop μ-loop
 loop-less c = search needs
 
--- src/lib.rt:15:5
 loop-again : tie.Need-loop-again Inv-loop μ-loop
 loop-again c =
     let s = c .before .before .before .args .bytes .now in
@@ -49,7 +41,6 @@ loop-again c =
     let h : i < length s = omega arith in
     (search needs, search needs, sym (latched-next (c .before .before .loop .slots) (c .before .before .before .args .address) i s h) ∙ c .before .before .loop .inv .2)
 
--- src/lib.rt:9:1
 returns : tie.Need-returns Inv-loop μ-loop
 returns c =
     let s = c .before .before .args .bytes .now in

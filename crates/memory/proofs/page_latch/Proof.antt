@@ -1,3 +1,4 @@
+-- `memory::page_latch` meets its contract.
 use borrow.Author.Needs.{needs}
 use Rattle.memory.specs.Memory.{blank}
 use Rattle.memory.proofs.page_latch.Statement.{statement}

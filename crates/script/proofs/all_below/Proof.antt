@@ -1,10 +1,10 @@
 -- `all_below` meets its contract: the invariant: the characters passed and those to come give the whole.
-use mathlib.Core.Path.{_≡_, refl, sym, ap, _∙_}
-use mathlib.Core.Bool.{true, _&&_, and-true}
+use mathlib.Core.Path.{_≡_, sym, _∙_}
+use mathlib.Core.Bool.{_&&_, and-true}
 use Prim.Native.Nat.{_≤_, _<_, _-_}
 use native.Mathlib.Omega.{arith}
-use lib.ListN.{length, getD, drop, drop-of-length-le}
-use Rattle.script.specs.Lines.{allBelow, digitOf}
+use lib.ListN.{length, drop, drop-of-length-le}
+use Rattle.script.specs.Lines.{allBelow}
 use Rattle.script.proofs.Reading.{all-next}
 use borrow.Author.Needs.{needs}
 use Rattle.script.proofs.all_below.Statement.{statement}

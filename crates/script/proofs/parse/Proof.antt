@@ -1,5 +1,5 @@
 -- `parse` meets its contract: each way out is a case of the definition.
-use mathlib.Core.Path.{_≡_, refl, sym, ap, _∙_}
+use mathlib.Core.Path.{_≡_, sym, _∙_}
 use mathlib.Core.Bool.{true, false}
 use Prim.Native.Nat.{min}
 use native.Mathlib.Omega.{arith}

@@ -1,11 +1,9 @@
+-- `chip::answers::as_needed` meets its contract.
 use Rattle.chip.specs.Answers.{asNeeded}
 use borrow.Author.Needs.{needs}
 use Rattle.chip.proofs.answers.as_needed.Statement.{statement}
 use Rattle.chip.proofs.answers.as_needed.Tie as tie
-use Rattle.chip.proofs.answers.as_needed.Reads as reads
-use Rattle.chip.proofs.answers.as_needed.Lts as lts
 
--- src/answers.rt:87:1
 returns : tie.Need-returns
 unfolding asNeeded
 returns c = search needs

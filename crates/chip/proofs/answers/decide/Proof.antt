@@ -1,22 +1,17 @@
+-- `chip::answers::decide` meets its contract.
 use borrow.Author.Tests.{eq-eqb, ne-eqb}
 use Rattle.chip.specs.Answers.{decided}
-use borrow.Author.Needs.{needs}
 use Rattle.chip.proofs.answers.decide.Statement.{statement}
 use Rattle.chip.proofs.answers.decide.Tie as tie
-use Rattle.chip.proofs.answers.decide.Reads as reads
-use Rattle.chip.proofs.answers.decide.Lts as lts
 
--- src/answers.rt:118:9
 returns : tie.Need-returns
 unfolding decided
 returns c = rw (ne-eqb _ _ (c .if1 .taken))
 
--- src/answers.rt:121:9
 returns-2 : tie.Need-returns-2
 unfolding decided
 returns-2 c = rw (eq-eqb _ _ (c .before .if1 .left), ne-eqb _ _ (c .if2 .taken))
 
--- src/answers.rt:114:1
 returns-3 : tie.Need-returns-3
 unfolding decided
 returns-3 c = rw (eq-eqb _ _ (c .before .if1 .left), eq-eqb _ _ (c .if2 .left))

@@ -1,70 +1,49 @@
+-- `chip::answers::ignored` meets its contract.
 use mathlib.Core.Path.{_∙_}
 use Rattle.chip.specs.Answers.{ignorance}
 use borrow.Author.Needs.{needs}
 use Rattle.chip.proofs.answers.ignored.Statement.{statement}
 use Rattle.chip.proofs.answers.ignored.Tie as tie
-use Rattle.chip.proofs.answers.ignored.Reads as reads
-use Rattle.chip.proofs.answers.ignored.Lts as lts
-use Rattle.chip.proofs.answers.as_needed.Reads as as-needed-reads
-use Rattle.chip.proofs.answers.is_busy.Reads as is-busy-reads
-use Rattle.chip.proofs.answers.is_deep.Reads as is-deep-reads
-use Rattle.chip.proofs.answers.is_guarded.Reads as is-guarded-reads
-use Rattle.chip.proofs.answers.writes_settings.Reads as writes-settings-reads
-use Rattle.slices.proofs.when.Reads as when-reads
 
--- src/answers.rt:102:9
 is-busy-requires : tie.Need-is-busy-requires
 is-busy-requires c κs = search needs
 
--- src/answers.rt:103:9
 is-deep-requires : tie.Need-is-deep-requires
 is-deep-requires c κs = search needs
 
--- src/answers.rt:106:9
 writes-settings-requires : tie.Need-writes-settings-requires
 writes-settings-requires c κs = search needs
 
--- src/answers.rt:107:9
 is-guarded-requires : tie.Need-is-guarded-requires
 is-guarded-requires c κs = search needs
 
--- src/answers.rt:108:9
 as-needed-requires : tie.Need-as-needed-requires
 as-needed-requires c κs = search needs
 
--- src/answers.rt:109:9
 when-requires : tie.Need-when-requires
 when-requires c κs = search needs
 
--- src/answers.rt:110:9
 when-requires-2 : tie.Need-when-requires-2
 when-requires-2 c κs = search needs
 
--- src/answers.rt:111:9
 when-requires-3 : tie.Need-when-requires-3
 when-requires-3 c κs = search needs
 
--- src/answers.rt:112:9
 when-requires-4 : tie.Need-when-requires-4
 when-requires-4 c κs = search needs
 
--- src/answers.rt:113:9
 when-requires-5 : tie.Need-when-requires-5
 when-requires-5 c κs = search needs
 
--- src/answers.rt:114:9
 when-requires-6 : tie.Need-when-requires-6
 when-requires-6 c κs = search needs
 
--- src/answers.rt:115:9
 when-requires-7 : tie.Need-when-requires-7
 when-requires-7 c κs = search needs
 
--- src/answers.rt:116:5
 when-requires-8 : tie.Need-when-requires-8
 when-requires-8 c κs = search needs
 
--- src/answers.rt:98:1
 returns : tie.Need-returns
 unfolding ignorance
 returns c =

@@ -1,48 +1,36 @@
+-- `chip::answers::is_guarded` meets its contract.
 use mathlib.Core.Path.{_∙_}
 use borrow.Author.Needs.{needs}
 use Rattle.chip.proofs.answers.is_guarded.Statement.{statement}
 use Rattle.chip.proofs.answers.is_guarded.Tie as tie
-use Rattle.chip.proofs.answers.is_guarded.Reads as reads
-use Rattle.chip.proofs.answers.is_guarded.Lts as lts
-use Rattle.chip.proofs.answers.in_protected.Reads as in-protected-reads
 
--- src/answers.rt:79:26
 enum-told : tie.Need-enum-told
 enum-told c = search needs
 
--- src/answers.rt:80:23
 enum-told-2 : tie.Need-enum-told-2
 enum-told-2 c = search needs
 
--- src/answers.rt:80:23
 in-protected-requires : tie.Need-in-protected-requires
 in-protected-requires c κs = search needs
 
--- src/answers.rt:81:25
 enum-told-3 : tie.Need-enum-told-3
 enum-told-3 c = search needs
 
--- src/answers.rt:81:25
 in-protected-requires-2 : tie.Need-in-protected-requires-2
 in-protected-requires-2 c κs = search needs
 
--- src/answers.rt:82:22
 enum-told-4 : tie.Need-enum-told-4
 enum-told-4 c = search needs
 
--- src/answers.rt:75:1
 returns : tie.Need-returns
 returns c = search needs
 
--- src/answers.rt:75:1
 returns-2 : tie.Need-returns-2
 returns-2 c = c .in-protected .ensures ∙ rw (c .before .enum-told2 .given .1)
 
--- src/answers.rt:75:1
 returns-3 : tie.Need-returns-3
 returns-3 c = c .in-protected2 .ensures ∙ rw (c .before .enum-told3 .given .1)
 
--- src/answers.rt:75:1
 returns-4 : tie.Need-returns-4
 returns-4 c = rw (c .enum-told4 .given .1)
 

@@ -1,3 +1,4 @@
+-- `chip::line::respond` meets its contract.
 use mathlib.Core.Path.{_≡_, refl, ap, _∙_}
 use Prim.Native.Nat.{_≤_}
 use native.Mathlib.Omega.{arith}
@@ -11,74 +12,49 @@ use Rattle.chip.proofs.Lines.{span-is}
 use borrow.Author.Needs.{needs}
 use Rattle.chip.proofs.line.respond.Statement.{statement}
 use Rattle.chip.proofs.line.respond.Tie as tie
-use Rattle.chip.proofs.line.respond.Reads as reads
-use Rattle.chip.proofs.line.respond.Lts as lts
-use Rattle.chip.proofs.line.put_driven.Reads as put-driven-reads
-use Rattle.chip.proofs.line.row_heard.Reads as row-heard-reads
-use Rattle.chip.proofs.line.span_of.Reads as span-of-reads
-use Rattle.chip.proofs.table.address.Reads as address-reads
-use Rattle.device.proofs.Device.status.Reads as status-reads
-use Rattle.parts.proofs.Figures.of.Reads as of-reads
-use Rattle.slices.proofs.fill_part.Reads as fill-part-reads
-use Rattle.slices.proofs.least.Reads as least-reads
 
--- src/line.rt:87:9
 of-requires : tie.Need-of-requires
 of-requires c κs = search needs
 
--- src/line.rt:88:9
 row-heard-requires : tie.Need-row-heard-requires
 row-heard-requires c κs = search needs
 
--- src/line.rt:90:9
 span-of-requires : tie.Need-span-of-requires
 span-of-requires c κs = search needs
 
--- src/line.rt:91:14
 address-requires : tie.Need-address-requires
 address-requires c κs = search needs
 
--- src/line.rt:91:14
 cast-at : tie.Need-cast-at
 cast-at c = search needs
 
--- src/line.rt:92:9
 least-requires : tie.Need-least-requires
 least-requires c κs = search needs
 
--- src/line.rt:93:9
 least-requires-2 : tie.Need-least-requires-2
 least-requires-2 c κs = search needs
 
--- src/line.rt:95:5
 fill-part-requires : tie.Need-fill-part-requires
 fill-part-requires c κs = search needs
 
--- src/line.rt:96:30
 status-requires : tie.Need-status-requires
 status-requires c κs = search needs
 
--- src/line.rt:96:58
 sub-put-driven : tie.Need-sub-put-driven
 sub-put-driven c = search needs
 
--- src/line.rt:96:58
 part-put-driven-start : tie.Need-part-put-driven-start
 part-put-driven-start c = search needs
 
--- src/line.rt:96:58
 part-put-driven-end : tie.Need-part-put-driven-end
 part-put-driven-end c = search needs
 
--- src/line.rt:96:5
 put-driven-requires : tie.Need-put-driven-requires
 put-driven-requires c κs = search needs
 
--- src/line.rt:84:1
 same-length : tie.Need-same-length
 same-length c = search needs
 
--- src/line.rt:84:1
 returns : tie.Need-returns
 returns c =
     let b = c .before .before .before .before .before .before .before in

@@ -1,42 +1,30 @@
-use mathlib.Core.Path.{_≡_, _∙_}
-use Prim.Native.Nat.{_≤_}
+-- `chip::table::address` meets its contract.
+use mathlib.Core.Path.{_∙_}
 use native.Mathlib.Nat.{mod-le}
 use native.Mathlib.Omega.{arith}
 use Rattle.chip.specs.Table.{addressOf}
 use borrow.Author.Needs.{needs}
 use Rattle.chip.proofs.table.address.Statement.{statement}
 use Rattle.chip.proofs.table.address.Tie as tie
-use Rattle.chip.proofs.table.address.Reads as reads
-use Rattle.chip.proofs.table.address.Lts as lts
-use Rattle.chip.proofs.table.joined.Reads as joined-reads
-use Rattle.slices.proofs.byte_at.Reads as byte-at-reads
-use Rattle.slices.proofs.rest.Reads as rest-reads
 
--- src/table.rt:170:9
 byte-at-requires : tie.Need-byte-at-requires
 byte-at-requires c κs = search needs
 
--- src/table.rt:171:9
 byte-at-requires-2 : tie.Need-byte-at-requires-2
 byte-at-requires-2 c κs = search needs
 
--- src/table.rt:172:9
 byte-at-requires-3 : tie.Need-byte-at-requires-3
 byte-at-requires-3 c κs = search needs
 
--- src/table.rt:173:18
 joined-requires : tie.Need-joined-requires
 joined-requires c κs = search needs
 
--- src/table.rt:173:5
 rest-requires : tie.Need-rest-requires
 rest-requires c κs = search needs
 
--- src/table.rt:173:5
 cast-result : tie.Need-cast-result
 cast-result c = record { fits = omega (arith, c .rest .ensures, mod-le (c .before .joined .result) (c .before .before .before .before .before .before .args .figures .bytes)) }
 
--- src/table.rt:167:1
 returns : tie.Need-returns
 unfolding addressOf
 returns c = c .rest .ensures ∙ rw (c .before .joined .ensures, c .before .before .byte-at3 .ensures, c .before .before .before .byte-at2 .ensures, c .before .before .before .before .byte-at .ensures)

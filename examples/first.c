@@ -1,0 +1,55 @@
+/* first.c - a first program: deliver the bench part, identify it, program it, wait, and read it back.
+ *
+ *   rt staticlib m25p
+ *   cc -O2 -Iinclude examples/first.c target/staticlib/libm25p.a -o first && ./first
+ */
+#include <stdio.h>
+#include <stdlib.h>
+
+#include "m25p.h"
+
+static uint8_t record[M25P_RECORD_BYTES];
+static uint8_t array[M25P_BENCH_BYTES];
+static uint8_t response[64];
+
+/* Ends the program unless the call was executed. */
+static uint64_t executed(const char *name, uint64_t answer)
+{
+    if (m25p_answer(answer) != M25P_EXECUTED) {
+        fprintf(stderr, "%s: answer %u\n", name, m25p_answer(answer));
+        exit(1);
+    }
+    return answer;
+}
+
+/* One transaction with W high and no further pulses; prints the bytes that the chip drove. */
+static void say(const char *name, const uint8_t *sent, size_t n)
+{
+    uint64_t answer = executed(name, m25p_transact(record, sizeof record, array, sizeof array,
+                                                   sent, n, 0, 1, response, sizeof response));
+    uint32_t first = m25p_first(answer), count = m25p_count(answer);
+    printf("%-16s", name);
+    for (uint32_t i = 0; i < count; i++)
+        printf(" %02X", response[first + i]);
+    printf("%s\n", count == 0 ? " done" : "");
+}
+
+int main(void)
+{
+    const uint8_t identify[] = {0x9F, 0, 0, 0};
+    const uint8_t write_enable[] = {0x06};
+    const uint8_t program[] = {0x02, 0x00, 0x01, 0x00, 'f', 'l', 'a', 's', 'h'};
+    const uint8_t status[] = {0x05, 0};
+    const uint8_t read[] = {0x03, 0x00, 0x01, 0x00, 0, 0, 0, 0, 0, 0};
+
+    executed("deliver", m25p_deliver(record, sizeof record, M25P_BENCH, array, sizeof array,
+                                     3, 5, 9, 2));
+    say("identification", identify, sizeof identify);
+    say("write enable", write_enable, sizeof write_enable);
+    say("program", program, sizeof program);
+    say("status", status, sizeof status);
+    executed("wait", m25p_wait(record, sizeof record, 3));
+    say("status", status, sizeof status);
+    say("read", read, sizeof read);
+    return 0;
+}

@@ -1,0 +1,186 @@
+/* m25p.h - the C calls of a software stand-in for M25P serial flash chips (libm25p.a).
+ *
+ * A chip is two buffers that you own: a packed record of 28 bytes (the settings and the mode of the
+ * chip) and the memory array (its contents). Each call is lent both, changes them in place and returns
+ * one 64-bit answer. Nothing is allocated, and nothing is remembered between calls.
+ *
+ * Parts
+ *
+ *   no. name       bytes        sectors  sector bytes  identification  signature  highest BP
+ *   0   bench           4,096    4         1,024       00 00 0C        0B         3
+ *   1   M25P10-A      131,072    4        32,768       20 20 11        10         3
+ *   2   M25P40        524,288    8        65,536       20 20 13        12         7
+ *   3   M25P32      4,194,304   64        65,536       20 20 16        15         7
+ *   4   M25P128    16,777,216   64       262,144       20 20 18        none       7
+ *
+ *   Identification and signature are hexadecimal. A page is 256 bytes. Part 0 exists only here, for
+ *   programs that want small buffers.
+ *
+ * The packed record, 28 bytes
+ *
+ *   byte 0       part, 0 to 4
+ *   byte 1       BP (block protect), 0 to the part's highest
+ *   byte 2       SRWD (status register write disable), 0 or 1
+ *   byte 3       write enable latch, 0 or 1
+ *   byte 4       mode: 0 standby, 1 busy, 2 deep power-down
+ *   bytes 5-7    zero
+ *   bytes 8-11   ticks left: 1 to 1,000,000 while busy, otherwise 0
+ *   bytes 12-15  duration of a page program, in ticks, 1 to 1,000,000
+ *   bytes 16-19  duration of a sector erase, likewise
+ *   bytes 20-23  duration of a bulk erase, likewise
+ *   bytes 24-27  duration of a status write, likewise
+ *
+ *   Numbers of four bytes are little-endian. A record is sound if every field is as above, a busy record
+ *   has its latch set, and part 4 is not in deep power-down. Any other 28 bytes are answered with 6.
+ *
+ * The answer, 64 bits
+ *
+ *   bits 0-7     answer number, see enum m25p_number
+ *   bits 8-15    first driven position: the first byte of the response that the chip drove
+ *   bits 16-47   driven count: how many bytes of the response the chip drove
+ *   bits 48-63   zero, kept for later
+ *
+ *   Where nothing was driven, and on every number but 0, first and count are 0.
+ *
+ * What you may pass
+ *
+ *   Any number in any argument: each is checked at its full width. Every slice is a pointer and its
+ *   length in bytes, and the memory must be there for that whole length. What the calls cannot check:
+ *   - Buffers lent to one call must not overlap.
+ *   - No buffer may be longer than PTRDIFF_MAX bytes.
+ *   - Empty slices: with a length of 0 pass a pointer that is not NULL; any valid address will do, as
+ *     nothing is read or written there.
+ *   - One chip is used by one thread at a time. Different chips are independent.
+ */
+#ifndef M25P_H
+#define M25P_H
+
+#include <stddef.h>
+#include <stdint.h>
+
+#ifdef __cplusplus
+extern "C" {
+#endif
+
+#define M25P_RECORD_BYTES 28u
+#define M25P_MOST_SENT 65536u        /* the most bytes in one transaction */
+#define M25P_MOST_TICKS 1000000u     /* the longest duration */
+
+enum m25p_part {
+    M25P_BENCH = 0,
+    M25P_M25P10A = 1,
+    M25P_M25P40 = 2,
+    M25P_M25P32 = 3,
+    M25P_M25P128 = 4
+};
+
+#define M25P_BENCH_BYTES 4096u
+#define M25P_M25P10A_BYTES 131072u
+#define M25P_M25P40_BYTES 524288u
+#define M25P_M25P32_BYTES 4194304u
+#define M25P_M25P128_BYTES 16777216u
+
+/* Answer numbers. On 1 to 8 the call was refused and has written nothing anywhere. On 11 to 18 the chip
+ * ignored the transaction: record and array stay, the latch included, and the response is all FF. */
+enum m25p_number {
+    M25P_EXECUTED = 0,          /* done */
+
+    M25P_UNKNOWN_PART = 1,      /* deliver: part above 4 */
+    M25P_ARRAY_LENGTH = 2,      /* deliver, transact: array_len is not the part's size */
+    M25P_SENT_LENGTH = 3,       /* transact: sent_len above 65,536 */
+    M25P_PULSES = 4,            /* transact: further pulses above 7 */
+    M25P_RESPONSE_LENGTH = 5,   /* transact: response_len below sent_len */
+    M25P_RECORD_UNSOUND = 6,    /* transact, wait, power_up: not the packing of a sound record */
+    M25P_DURATION = 7,          /* deliver: a duration outside 1 to 1,000,000 */
+    M25P_RECORD_LENGTH = 8,     /* all: record_len is not 28 */
+
+    M25P_NO_BYTES = 11,         /* nothing was sent */
+    M25P_BUSY = 12,             /* busy, and not RDSR */
+    M25P_DEEP = 13,             /* deep power-down, and not RES */
+    M25P_UNKNOWN_CODE = 14,     /* the first byte is no instruction of this part */
+    M25P_WRONG_FORM = 15,       /* number of bytes, or further pulses, not as the instruction needs */
+    M25P_LATCH_NEEDED = 16,     /* the latch is needed and not set */
+    M25P_PROTECTED = 17,        /* PP or SE in a protected sector; BE with BP above 0 */
+    M25P_STATUS_FROZEN = 18     /* WRSR with SRWD set and W low */
+};
+
+/* Each call gives the first number that applies, in this order:
+ *   m25p_deliver            8, 1, 2, 7
+ *   m25p_wait, m25p_power_up  8, 6
+ *   m25p_transact           8, 6, 2, 3, 4, 5, then 11, 14, 12, 13, 15, 16, 17, 18
+ */
+
+/* A part as it comes from the factory: the array all FF, BP 0, SRWD 0, latch reset, standby, with the
+ * given durations in ticks. The record's 28 bytes need not hold anything before. */
+uint64_t m25p_deliver(uint8_t *record, size_t record_len, uint32_t part,
+                      uint8_t *array, size_t array_len,
+                      uint32_t program, uint32_t sector_erase,
+                      uint32_t bulk_erase, uint32_t write_status);
+
+/* One transaction, that is one period of Chip Select low. sent: the n = sent_len whole bytes shifted in.
+ * pulses: the further clock pulses after them, 0 to 7. w: the level of the Write Protect pin W as Chip
+ * Select rises, low for 0, high for anything else. response: byte i of its first n is what the chip
+ * drove during byte i, FF where it drove nothing; bytes from n on are left as they are.
+ *
+ *   code  name       needs                          effect
+ *   06    WREN       n = 1, no pulses               latch set
+ *   04    WRDI       n = 1, no pulses               latch reset
+ *   9F    RDID       n >= 1                         from byte 1: the identification, then 00
+ *   05    RDSR       n >= 1                         from byte 1: the status byte, repeated
+ *   01    WRSR       n = 2, no pulses, latch        SRWD = bit 7, BP = bits 4 to 2 (3 and 2 on parts
+ *                                                   0 and 1)
+ *   03    READ       n >= 4                         from byte 4: the array from the address on, rolling
+ *                                                   over from the last byte to 0
+ *   0B    FAST_READ  n >= 5                         the same, from byte 5
+ *   02    PP         n >= 5, no pulses, latch       page program, see below
+ *   D8    SE         n = 4, no pulses, latch        the addressed sector becomes FF
+ *   C7    BE         n = 1, no pulses, latch, BP 0  the array becomes FF
+ *   B9    DP         n = 1, no pulses               deep power-down (unknown on part 4)
+ *   AB    RES        n >= 1                         standby; from byte 4: the signature, repeated
+ *                                                   (unknown on part 4)
+ *
+ * An address is bytes 1 to 3, high byte first, modulo the part's size. A program takes the bytes from 4
+ * on: data byte k goes to slot (address + k) modulo 256, a later byte replaces an earlier one in its
+ * slot, and then each byte of the addressed page becomes itself AND its slot; where no data went, the
+ * byte stays. An executed WRSR, PP, SE or BE takes effect at once and makes the chip busy for its
+ * duration. Status byte: bit 7 SRWD, bits 4 to 2 BP, bit 1 the latch, bit 0 set while busy.
+ *
+ * BP protects this many of the highest sectors: 0 for BP 0, otherwise 2 to the power BP - 1, or all of
+ * them where the part has fewer. */
+uint64_t m25p_transact(uint8_t *record, size_t record_len,
+                       uint8_t *array, size_t array_len,
+                       const uint8_t *sent, size_t sent_len,
+                       uint32_t pulses, uint32_t w,
+                       uint8_t *response, size_t response_len);
+
+/* Lets ticks pass. While busy: fewer ticks than are left are taken off; otherwise the cycle ends, with
+ * standby and the latch reset. In standby and deep power-down nothing changes. */
+uint64_t m25p_wait(uint8_t *record, size_t record_len, uint32_t ticks);
+
+/* Power off and on: standby, latch reset; BP, SRWD, durations and array are kept, and a running cycle
+ * counts as finished. */
+uint64_t m25p_power_up(uint8_t *record, size_t record_len);
+
+/* The answer number, one of enum m25p_number. */
+static inline unsigned m25p_answer(uint64_t answer)
+{
+    return (unsigned)(answer & 0xFFu);
+}
+
+/* The first driven position. */
+static inline unsigned m25p_first(uint64_t answer)
+{
+    return (unsigned)((answer >> 8) & 0xFFu);
+}
+
+/* The driven count. */
+static inline uint32_t m25p_count(uint64_t answer)
+{
+    return (uint32_t)((answer >> 16) & 0xFFFFFFFFu);
+}
+
+#ifdef __cplusplus
+}
+#endif
+
+#endif

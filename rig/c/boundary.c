@@ -1,0 +1,120 @@
+/* boundary.c - the C calls at their limits: empty slices with and without an address, lengths beyond 32
+ * bits, full 32-bit numbers. Prints one line for each call: its name, answer number, first and count. */
+#define _GNU_SOURCE
+#include <stdio.h>
+#include <string.h>
+#include <sys/mman.h>
+
+#include "m25p.h"
+
+/* More than 2^32 bytes of address space, of which next to nothing is touched. */
+static const size_t HUGE_BYTES = ((size_t)1 << 32) + 8192;
+
+static uint8_t record[M25P_RECORD_BYTES];
+static uint8_t array[M25P_BENCH_BYTES];
+static uint8_t sent[M25P_MOST_SENT + 1];
+static uint8_t response[M25P_MOST_SENT + 1];
+static uint8_t *huge;
+
+static void show(const char *name, uint64_t a)
+{
+    printf("%s: %u %u %u\n", name, m25p_answer(a), m25p_first(a), m25p_count(a));
+}
+
+static void fresh(void)
+{
+    m25p_deliver(record, sizeof record, M25P_BENCH, array, sizeof array, 3, 5, 9, 2);
+}
+
+static uint64_t send(const uint8_t *bytes, size_t n, uint32_t pulses, uint32_t w, uint8_t *q, size_t length)
+{
+    return m25p_transact(record, sizeof record, array, sizeof array, bytes, n, pulses, w, q, length);
+}
+
+/* Every slice of every call empty in turn, at an address or at none. */
+static void empty(const char *kind, uint8_t *none)
+{
+    printf("empty slices, %s\n", kind);
+    fresh();
+    show("deliver record", m25p_deliver(none, 0, 0, array, sizeof array, 3, 5, 9, 2));
+    show("deliver array", m25p_deliver(record, sizeof record, 0, none, 0, 3, 5, 9, 2));
+    show("deliver both", m25p_deliver(none, 0, 0, none, 0, 3, 5, 9, 2));
+    show("wait record", m25p_wait(none, 0, 1));
+    show("power-up record", m25p_power_up(none, 0));
+    show("transact record", m25p_transact(none, 0, array, sizeof array, sent, 1, 0, 1, response, 1));
+    show("transact array", m25p_transact(record, sizeof record, none, 0, sent, 1, 0, 1, response, 1));
+    show("transact sent", send(none, 0, 0, 1, response, sizeof response));
+    show("transact response", send(sent, 1, 0, 1, none, 0));
+    show("transact sent and response", send(none, 0, 0, 1, none, 0));
+    show("transact all", m25p_transact(none, 0, none, 0, none, 0, 0, 1, none, 0));
+}
+
+/* Lengths that are right only if they are cut to 32 bits, and a response that is wrong only then. */
+static void beyond_32_bits(void)
+{
+    size_t over = (size_t)1 << 32;
+    printf("lengths beyond 32 bits\n");
+    fresh();
+    memcpy(huge, record, sizeof record);
+    show("deliver record", m25p_deliver(huge, over + 28, 0, array, sizeof array, 3, 5, 9, 2));
+    show("deliver array", m25p_deliver(record, sizeof record, 0, huge, over + 4096, 3, 5, 9, 2));
+    show("wait record", m25p_wait(huge, over + 28, 1));
+    show("power-up record", m25p_power_up(huge, over + 28));
+    show("transact record", m25p_transact(huge, over + 28, array, sizeof array, sent, 1, 0, 1, response, 1));
+    show("transact array", m25p_transact(record, sizeof record, huge, over + 4096, sent, 1, 0, 1, response, 1));
+    show("transact sent", send(huge, over + 1, 0, 1, response, sizeof response));
+    sent[0] = 0x9F;
+    show("transact response", send(sent, 4, 0, 1, huge, over));
+    printf("%02X %02X %02X %02X\n", huge[0], huge[1], huge[2], huge[3]);
+}
+
+/* Numbers that are right only if they are cut to 8 or 16 bits. */
+static void full_numbers(void)
+{
+    const uint8_t settings[2] = {0x01, 0x00};
+    printf("full numbers\n");
+    fresh();
+    show("part 256", m25p_deliver(record, sizeof record, 256, array, sizeof array, 3, 5, 9, 2));
+    show("part 65536", m25p_deliver(record, sizeof record, 65536, array, sizeof array, 3, 5, 9, 2));
+    show("program 1000001", m25p_deliver(record, sizeof record, 0, array, sizeof array, 1000001, 5, 9, 2));
+    show("write status 2^32-1", m25p_deliver(record, sizeof record, 0, array, sizeof array, 3, 5, 9, UINT32_MAX));
+    sent[0] = 0x06;
+    show("pulses 256", send(sent, 1, 256, 1, response, 1));
+    show("pulses 2^31", send(sent, 1, (uint32_t)1 << 31, 1, response, 1));
+    record[2] = record[3] = 1;
+    show("W 0", send(settings, 2, 0, 0, response, 2));
+    show("W 256", send(settings, 2, 0, 256, response, 2));
+    show("wait 2^32-1", m25p_wait(record, sizeof record, UINT32_MAX));
+}
+
+/* The longest transaction, and one byte more. */
+static void longest(void)
+{
+    printf("longest transactions\n");
+    fresh();
+    sent[0] = 0x03;
+    show("read 65536", send(sent, 65536, 7, 0, response, 65536));
+    show("read 65537", send(sent, 65537, 7, 0, response, 65537));
+    show("short response", send(sent, 65536, 0, 1, response, 65535));
+    sent[0] = 0x06;
+    send(sent, 1, 0, 1, response, 1);
+    sent[0] = 0x02;
+    show("program 65536", send(sent, 65536, 0, 0, response, 65536));
+}
+
+int main(void)
+{
+    huge = mmap(NULL, HUGE_BYTES, PROT_READ | PROT_WRITE, MAP_PRIVATE | MAP_ANONYMOUS | MAP_NORESERVE, -1, 0);
+    if (huge == MAP_FAILED) {
+        perror("mmap");
+        return 1;
+    }
+    sent[0] = 0x05;
+    empty("an address", array);
+    beyond_32_bits();
+    full_numbers();
+    longest();
+    sent[0] = 0x05;
+    empty("NULL", NULL);
+    return 0;
+}

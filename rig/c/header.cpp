@@ -1,0 +1,10 @@
+// header.cpp - the header from C++: the constants, the inline functions, and the linkage of the calls.
+#include "m25p.h"
+
+int main()
+{
+    uint8_t record[M25P_RECORD_BYTES] = {};
+    uint64_t answer = m25p_wait(record, sizeof record, 1);
+    bool refused = m25p_answer(answer) == M25P_RECORD_UNSOUND;
+    return refused && m25p_first(answer) == 0 && m25p_count(answer) == 0 ? 0 : 1;
+}

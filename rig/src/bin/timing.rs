@@ -1,0 +1,129 @@
+//! Times long reads and bulk erase through the C calls against plain Rust, side by side in one run.
+
+use std::hint::black_box;
+use std::time::{Duration, Instant};
+
+use rig::calls::{self, Durations, ARRAY_BYTES};
+
+const READ_BYTES: usize = 60_000;
+const ROUNDS: usize = 15;
+const READS: usize = 2_000;
+const ERASES: usize = 4;
+const DURATIONS: Durations =
+    Durations { program: 1, sector_erase: 1, bulk_erase: 1, write_status: 1 };
+
+/// The plain read: FF while the address is sent, then the array, rolling over.
+#[inline(never)]
+fn plain_read(array: &[u8], sent: &[u8], response: &mut [u8]) {
+    let address = (sent[1] as usize) << 16 | (sent[2] as usize) << 8 | sent[3] as usize;
+    let mut from = address % array.len();
+    let (silent, mut rest) = response[..sent.len()].split_at_mut(4);
+    silent.fill(0xFF);
+    while !rest.is_empty() {
+        let run = rest.len().min(array.len() - from);
+        rest[..run].copy_from_slice(&array[from..from + run]);
+        rest = &mut rest[run..];
+        from = 0;
+    }
+}
+
+/// The plain bulk erase.
+#[inline(never)]
+fn plain_erase(array: &mut [u8]) {
+    array.fill(0xFF);
+}
+
+/// A chip for the C calls and an array for plain Rust, both touched already.
+struct Both {
+    record: [u8; 28],
+    array: Vec<u8>,
+    plain: Vec<u8>,
+    response: Vec<u8>,
+}
+
+impl Both {
+    fn new(part: u32) -> Both {
+        let bytes = ARRAY_BYTES[part as usize];
+        let (array, plain) = (vec![0; bytes], vec![0xFF; bytes]);
+        let mut both = Both { record: [0; 28], array, plain, response: vec![0; READ_BYTES + 4] };
+        let reply = calls::deliver(&mut both.record, part, &mut both.array, DURATIONS);
+        assert_eq!(reply.0, 0);
+        both
+    }
+
+    fn transact(&mut self, sent: &[u8]) {
+        let Both { record, array, response, .. } = self;
+        let reply = calls::transact(record, array, sent, 0, 1, response);
+        assert_eq!(reply.0 as u8, 0);
+    }
+
+    /// READ from addresses all over the array, one of them rolling over.
+    fn sent(&self, i: usize) -> Vec<u8> {
+        let address = (i * 1_234_567 + self.array.len() - 30_000) % self.array.len();
+        let mut sent = vec![0; READ_BYTES + 4];
+        sent[0] = 0x03;
+        sent[1..4].copy_from_slice(&(address as u32).to_be_bytes()[1..]);
+        sent
+    }
+}
+
+fn timed(mut work: impl FnMut()) -> Duration {
+    let start = Instant::now();
+    work();
+    start.elapsed()
+}
+
+/// The middle time of both, over rounds that take turns.
+fn middle(mut round: impl FnMut() -> (Duration, Duration)) -> (Duration, Duration) {
+    round();
+    let (mut first, mut second): (Vec<_>, Vec<_>) = (0..ROUNDS).map(|_| round()).unzip();
+    first.sort();
+    second.sort();
+    (first[ROUNDS / 2], second[ROUNDS / 2])
+}
+
+fn report(what: &str, times: usize, (calls, plain): (Duration, Duration)) {
+    let each = |time: Duration| time.as_secs_f64() * 1e6 / times as f64;
+    let ratio = calls.as_secs_f64() / plain.as_secs_f64();
+    println!("{what:<32} {:>10.2} us {:>10.2} us   {ratio:.2}", each(calls), each(plain));
+}
+
+fn time_reads(name: &str, part: u32) {
+    let mut both = Both::new(part);
+    let sent: Vec<Vec<u8>> = (0..16).map(|i| both.sent(i)).collect();
+    let times = middle(|| {
+        let calls = timed(|| (0..READS).for_each(|i| both.transact(black_box(&sent[i % 16]))));
+        let Both { plain, response, .. } = &mut both;
+        let plain = timed(|| {
+            (0..READS)
+                .for_each(|i| plain_read(black_box(plain), black_box(&sent[i % 16]), response))
+        });
+        (calls, plain)
+    });
+    report(&format!("{name} read of 60,000 bytes"), READS, times);
+}
+
+fn time_erases(name: &str, part: u32) {
+    let mut both = Both::new(part);
+    let times = middle(|| {
+        let calls = timed(|| {
+            for _ in 0..ERASES {
+                both.transact(&[0x06]);
+                both.transact(&[0xC7]);
+                calls::wait(&mut both.record, 1);
+            }
+        });
+        let plain = timed(|| (0..ERASES).for_each(|_| plain_erase(black_box(&mut both.plain))));
+        (calls, plain)
+    });
+    report(&format!("{name} bulk erase"), ERASES, times);
+}
+
+fn main() {
+    println!("middle of {ROUNDS} rounds; buffers written before, so no page is touched first");
+    println!("{:<32} {:>13} {:>13}   ratio", "", "C call", "plain Rust");
+    for (name, part) in [("M25P32", 3), ("M25P128", 4)] {
+        time_reads(name, part);
+        time_erases(name, part);
+    }
+}

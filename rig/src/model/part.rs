@@ -1,0 +1,64 @@
+//! The five parts and their protected areas, as the paper's two tables print them.
+
+pub struct Part {
+    pub bytes: usize,
+    pub sectors: usize,
+    pub sector_bytes: usize,
+    pub identification: [u8; 3],
+    pub signature: Option<u8>,
+    pub highest_bp: u8,
+    /// How many of the highest sectors are protected, by BP.
+    pub protected: &'static [usize],
+}
+
+const FOUR_SECTORS: &[usize] = &[0, 1, 2, 4];
+const EIGHT_SECTORS: &[usize] = &[0, 1, 2, 4, 8, 8, 8, 8];
+const SIXTY_FOUR_SECTORS: &[usize] = &[0, 1, 2, 4, 8, 16, 32, 64];
+
+pub const PARTS: [Part; 5] = [
+    Part {
+        bytes: 4_096,
+        sectors: 4,
+        sector_bytes: 1_024,
+        identification: [0x00, 0x00, 0x0C],
+        signature: Some(0x0B),
+        highest_bp: 3,
+        protected: FOUR_SECTORS,
+    },
+    Part {
+        bytes: 131_072,
+        sectors: 4,
+        sector_bytes: 32_768,
+        identification: [0x20, 0x20, 0x11],
+        signature: Some(0x10),
+        highest_bp: 3,
+        protected: FOUR_SECTORS,
+    },
+    Part {
+        bytes: 524_288,
+        sectors: 8,
+        sector_bytes: 65_536,
+        identification: [0x20, 0x20, 0x13],
+        signature: Some(0x12),
+        highest_bp: 7,
+        protected: EIGHT_SECTORS,
+    },
+    Part {
+        bytes: 4_194_304,
+        sectors: 64,
+        sector_bytes: 65_536,
+        identification: [0x20, 0x20, 0x16],
+        signature: Some(0x15),
+        highest_bp: 7,
+        protected: SIXTY_FOUR_SECTORS,
+    },
+    Part {
+        bytes: 16_777_216,
+        sectors: 64,
+        sector_bytes: 262_144,
+        identification: [0x20, 0x20, 0x18],
+        signature: None,
+        highest_bp: 7,
+        protected: SIXTY_FOUR_SECTORS,
+    },
+];
