@@ -1,7 +1,10 @@
 /* first.c - a first program: deliver the bench part, identify it, program it, wait, and read it back.
  *
  *   rt staticlib m25p
- *   cc -O2 -Iinclude examples/first.c target/staticlib/libm25p.a -o first && ./first
+ *   cc -O2 -Iinclude examples/first.c target/staticlib/libm25p.a -o target/first && target/first
+ *
+ * The archive is for x86-64, and so are these commands. On another processor rig/run --test c_boundary
+ * builds and runs this program with the compiler and the emulator of the Rattle kit.
  */
 #include <stdio.h>
 #include <stdlib.h>

@@ -45,11 +45,11 @@
  * What you may pass
  *
  *   Any number in any argument: each is checked at its full width. Every slice is a pointer and its
- *   length in bytes, and the memory must be there for that whole length. What the calls cannot check:
+ *   length in bytes, and the memory must be there for that whole length. Empty slices: with a length of 0
+ *   the pointer may be anything, NULL too, as nothing is read or written there. What the calls cannot
+ *   check:
  *   - Buffers lent to one call must not overlap.
  *   - No buffer may be longer than PTRDIFF_MAX bytes.
- *   - Empty slices: with a length of 0 pass a pointer that is not NULL; any valid address will do, as
- *     nothing is read or written there.
  *   - One chip is used by one thread at a time. Different chips are independent.
  */
 #ifndef M25P_H

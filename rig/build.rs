@@ -1,9 +1,16 @@
-// Finds libm25p.a, in M25P_LIB_DIR or in ../target/staticlib, and links it.
-use std::path::PathBuf;
+// Finds libm25p.a, in M25P_LIB_DIR or in ../target/staticlib. Where the machine can link it, it is
+// linked; elsewhere the bridge is built, a program that makes the calls under the kit's emulator.
+use std::path::{Path, PathBuf};
+
+#[allow(dead_code)]
+#[path = "src/kit.rs"]
+mod kit;
 
 fn main() {
     println!("cargo::rerun-if-env-changed=M25P_LIB_DIR");
-    println!("cargo::rerun-if-changed=build.rs");
+    for file in ["build.rs", "src/kit.rs", "c/bridge.c", "../include/m25p.h"] {
+        println!("cargo::rerun-if-changed={file}");
+    }
     let dir = match std::env::var_os("M25P_LIB_DIR") {
         Some(dir) => PathBuf::from(dir),
         None => PathBuf::from("../target/staticlib"),
@@ -14,7 +21,19 @@ fn main() {
         println!("cargo::error=There is no {}: run `rt staticlib m25p` first.", archive.display());
         return;
     };
-    println!("cargo::rustc-link-search=native={}", found.parent().unwrap().display());
-    println!("cargo::rustc-link-lib=static=m25p");
     println!("cargo::rustc-env=M25P_ARCHIVE={}", found.display());
+    if kit::NATIVE {
+        println!("cargo::rustc-link-search=native={}", found.parent().unwrap().display());
+        println!("cargo::rustc-link-lib=static=m25p");
+        return;
+    }
+    let bridge = PathBuf::from(std::env::var_os("OUT_DIR").unwrap()).join("bridge");
+    let flags = ["-std=c99", "-O2", "-Wall", "-Wextra", "-Wpedantic", "-Werror"];
+    match kit::build(Path::new("c/bridge.c"), &flags, &found, &bridge) {
+        Ok(()) => println!("cargo::rustc-env=M25P_BRIDGE={}", bridge.display()),
+        Err(why) => {
+            let why = why.replace('\n', " | ");
+            println!("cargo::error=The bridge to libm25p.a can't be built. {why}");
+        }
+    }
 }

@@ -1,34 +1,20 @@
 //! The four C calls of libm25p.a as safe Rust: on slices of any length, and as a chip that owns them.
 
-mod raw {
-    extern "C" {
-        pub fn m25p_deliver(
-            record: *mut u8,
-            record_len: usize,
-            part: u32,
-            array: *mut u8,
-            array_len: usize,
-            program: u32,
-            sector_erase: u32,
-            bulk_erase: u32,
-            write_status: u32,
-        ) -> u64;
-        pub fn m25p_transact(
-            record: *mut u8,
-            record_len: usize,
-            array: *mut u8,
-            array_len: usize,
-            sent: *const u8,
-            sent_len: usize,
-            pulses: u32,
-            w: u32,
-            response: *mut u8,
-            response_len: usize,
-        ) -> u64;
-        pub fn m25p_wait(record: *mut u8, record_len: usize, ticks: u32) -> u64;
-        pub fn m25p_power_up(record: *mut u8, record_len: usize) -> u64;
-    }
-}
+// Where the library runs: in this process, or behind a bridge on a machine that can't link it.
+#[cfg(not(target_arch = "x86_64"))]
+#[path = "calls/bridge.rs"]
+mod library;
+#[cfg(target_arch = "x86_64")]
+#[path = "calls/direct.rs"]
+mod library;
+#[cfg(not(target_arch = "x86_64"))]
+mod room;
+#[cfg(not(target_arch = "x86_64"))]
+mod shared;
+
+/// Bytes that a call is lent without a copy, wherever the library runs; slices from elsewhere may be
+/// copied there and back. For large arrays; `buffer` makes one of a `Vec<u8>`.
+pub use library::{buffer, Buffer};
 
 /// The length of a packed record.
 pub const RECORD_BYTES: usize = 28;
@@ -114,24 +100,10 @@ pub struct Durations {
     pub write_status: u32,
 }
 
-// The four functions below lend slices to the calls. Rust slices never overlap here, their memory is
-// there for their whole length, and the pointer of an empty one is not null.
+// The calls, on slices of any length.
 
 pub fn deliver(record: &mut [u8], part: u32, array: &mut [u8], durations: Durations) -> Reply {
-    let Durations { program, sector_erase, bulk_erase, write_status } = durations;
-    Reply(unsafe {
-        raw::m25p_deliver(
-            record.as_mut_ptr(),
-            record.len(),
-            part,
-            array.as_mut_ptr(),
-            array.len(),
-            program,
-            sector_erase,
-            bulk_erase,
-            write_status,
-        )
-    })
+    Reply(library::deliver(record, part, array, durations))
 }
 
 pub fn transact(
@@ -142,41 +114,28 @@ pub fn transact(
     w: u32,
     response: &mut [u8],
 ) -> Reply {
-    Reply(unsafe {
-        raw::m25p_transact(
-            record.as_mut_ptr(),
-            record.len(),
-            array.as_mut_ptr(),
-            array.len(),
-            sent.as_ptr(),
-            sent.len(),
-            pulses,
-            w,
-            response.as_mut_ptr(),
-            response.len(),
-        )
-    })
+    Reply(library::transact(record, array, sent, pulses, w, response))
 }
 
 pub fn wait(record: &mut [u8], ticks: u32) -> Reply {
-    Reply(unsafe { raw::m25p_wait(record.as_mut_ptr(), record.len(), ticks) })
+    Reply(library::wait(record, ticks))
 }
 
 pub fn power_up(record: &mut [u8]) -> Reply {
-    Reply(unsafe { raw::m25p_power_up(record.as_mut_ptr(), record.len()) })
+    Reply(library::power_up(record))
 }
 
 /// A chip that owns its record and its array.
 pub struct Chip {
     record: [u8; RECORD_BYTES],
-    array: Vec<u8>,
+    array: Buffer,
 }
 
 impl Chip {
     /// The part as delivered, or the number that refuses it.
     pub fn deliver(part: u32, durations: Durations) -> Result<Chip, Answer> {
         let bytes = ARRAY_BYTES.get(part as usize).copied().unwrap_or(0);
-        let mut chip = Chip { record: [0; RECORD_BYTES], array: vec![0; bytes] };
+        let mut chip = Chip { record: [0; RECORD_BYTES], array: buffer(vec![0; bytes]) };
         match deliver(&mut chip.record, part, &mut chip.array, durations).answer() {
             Answer::Executed => Ok(chip),
             refusal => Err(refusal),

@@ -1,6 +1,6 @@
 //! The comparison: one call is made to libm25p.a and to the model, and every lent byte is compared.
 
-use crate::calls::{self, Durations};
+use crate::calls::{self, buffer, Buffer, Durations};
 use crate::generate::Generator;
 use crate::model::{address, Fault, Model, Outcome, Record, Transaction, BE, CODES, PARTS};
 use crate::rng::Rng;
@@ -66,7 +66,7 @@ impl Tally {
 /// The buffers of one side.
 struct Side {
     record: Vec<u8>,
-    array: Vec<u8>,
+    array: Buffer,
     response: Vec<u8>,
 }
 
@@ -84,7 +84,7 @@ impl Pair {
         let part = start.part as usize;
         let mut record = rng.bytes(28 + SPARE);
         record[..28].copy_from_slice(&start.pack());
-        let array = rng.bytes(PARTS[part].bytes + SPARE);
+        let array = buffer(rng.bytes(PARTS[part].bytes + SPARE));
         let side =
             |record: &Vec<u8>, array| Side { record: record.clone(), array, response: vec![] };
         let real = side(&record, array.clone());

@@ -2,7 +2,7 @@
 
 use std::io::{BufRead, BufReader, Read, Write};
 use std::path::PathBuf;
-use std::process::{Child, Command, Stdio};
+use std::process::{Child, Stdio};
 use std::sync::mpsc::channel;
 use std::thread;
 use std::time::Duration;
@@ -10,6 +10,7 @@ use std::time::Duration;
 use rig::bench_model::{self, Bench, MOST_CHARACTERS};
 use rig::compare::Call;
 use rig::generate::Generator;
+use rig::kit;
 use rig::model::Record;
 use rig::rng::Rng;
 
@@ -20,8 +21,10 @@ fn start() -> Child {
         Some(path) => PathBuf::from(path),
         None => PathBuf::from(env!("CARGO_MANIFEST_DIR")).join("../target/bin/bench"),
     };
-    let piped = Command::new(&path).stdin(Stdio::piped()).stdout(Stdio::piped()).spawn();
-    piped.unwrap_or_else(|e| panic!("the bench program {} does not start: {e}", path.display()))
+    assert!(path.is_file(), "There is no bench program {}: run `rt check bench`.", path.display());
+    let mut command = kit::command(&path).unwrap_or_else(|why| panic!("{why}"));
+    let child = command.stdin(Stdio::piped()).stdout(Stdio::piped()).spawn();
+    child.unwrap_or_else(|e| panic!("the bench program {} does not start: {e}", path.display()))
 }
 
 /// The program's output for an input that is written in the given pieces, with pauses between if asked.

@@ -1,30 +1,24 @@
 //! C and C++ programs over m25p.h and libm25p.a, built with warnings as errors, and what they print.
 
-use std::path::PathBuf;
-use std::process::Command;
+use std::path::{Path, PathBuf};
 
-fn root() -> PathBuf {
-    PathBuf::from(env!("CARGO_MANIFEST_DIR")).join("..")
-}
+use rig::kit;
 
-/// Builds the program and hands back what it prints.
-fn output(compiler: &str, standard: &str, source: &str) -> String {
-    let name = source.replace(['/', '.'], "_");
-    let program = PathBuf::from(env!("CARGO_TARGET_TMPDIR")).join(name);
-    let built = Command::new(compiler)
-        .args([standard, "-O2", "-Wall", "-Wextra", "-Wpedantic", "-Werror", "-I"])
-        .arg(root().join("include"))
-        .arg(root().join(source))
-        .arg(env!("M25P_ARCHIVE"))
-        .arg("-o")
-        .arg(&program)
-        .status()
-        .unwrap_or_else(|e| panic!("{compiler} does not start: {e}"));
-    assert!(built.success(), "{source} does not build");
-    let run = Command::new(&program).output().unwrap();
+/// Builds the program and compares what it prints, or tells why this machine can't.
+fn prints(standard: &str, source: &str, expected: &str) {
+    let program = Path::new(env!("CARGO_TARGET_TMPDIR")).join(source.replace(['/', '.'], "_"));
+    let path = PathBuf::from(env!("CARGO_MANIFEST_DIR")).join("..").join(source);
+    if let Some(missing) = kit::missing(&path) {
+        rig::tell(&format!("skipped: {source} is not built. {missing}"));
+        return;
+    }
+    let flags = [standard, "-O2", "-Wall", "-Wextra", "-Wpedantic", "-Werror"];
+    let built = kit::build(&path, &flags, Path::new(env!("M25P_ARCHIVE")), &program);
+    built.unwrap_or_else(|why| panic!("{source} does not build. {why}"));
+    let run = kit::command(&program).unwrap().output().unwrap();
     let text = String::from_utf8(run.stdout).unwrap();
     assert!(run.status.success(), "{source}: {}, having printed\n{text}", run.status);
-    text
+    assert_eq!(text, expected);
 }
 
 #[test]
@@ -37,12 +31,12 @@ status           03
 status           00
 read             66 6C 61 73 68 FF
 ";
-    assert_eq!(output("cc", "-std=c99", "examples/first.c"), expected);
+    prints("-std=c99", "examples/first.c", expected);
 }
 
 #[test]
 fn header_in_cpp() {
-    assert_eq!(output("c++", "-std=c++11", "rig/c/header.cpp"), "");
+    prints("-std=c++11", "rig/c/header.cpp", "");
 }
 
 const EMPTY: &str = "\
@@ -90,5 +84,5 @@ program 65536: 0 0 0
 #[test]
 fn limits() {
     let expected = format!("empty slices, an address\n{EMPTY}{LIMITS}empty slices, NULL\n{EMPTY}");
-    assert_eq!(output("cc", "-std=c99", "rig/c/boundary.c"), expected);
+    prints("-std=c99", "rig/c/boundary.c", &expected);
 }

@@ -1,11 +1,10 @@
 //! libm25p.a against the model, over all five parts. RIG_CALLS and RIG_SEED make it longer or another.
 
-use std::io::Write;
-
 use rig::calls::Answer;
 use rig::compare::{episode, Tally};
 use rig::model::{Fault, CODES};
 use rig::rng::Rng;
+use rig::tell;
 
 const DEFAULT_CALLS: u64 = 1_000_000;
 const DEFAULT_SEED: u64 = 1;
@@ -18,11 +17,6 @@ fn number(name: &str, default: u64) -> u64 {
         Ok(text) => text.parse().unwrap_or_else(|_| panic!("{name} is a decimal number")),
         Err(_) => default,
     }
-}
-
-/// Written past the test's capture, so that a seed is always seen.
-fn tell(text: &str) {
-    let _ = writeln!(std::io::stderr(), "{text}");
 }
 
 #[test]

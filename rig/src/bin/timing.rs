@@ -1,9 +1,12 @@
-//! Times long reads and bulk erase through the C calls against plain Rust, side by side in one run.
+//! Times long reads and bulk erase through the C calls against plain Rust, side by side in one run; where
+//! the library runs under an emulator, against plain C there.
 
 use std::hint::black_box;
+use std::path::Path;
 use std::time::{Duration, Instant};
 
 use rig::calls::{self, Durations, ARRAY_BYTES};
+use rig::kit;
 
 const READ_BYTES: usize = 60_000;
 const ROUNDS: usize = 15;
@@ -67,6 +70,17 @@ impl Both {
     }
 }
 
+/// All this in c/timing.c instead, for a machine that runs libm25p.a under an emulator.
+fn emulated() -> Result<(), String> {
+    println!("middle of {ROUNDS} rounds; both run under an emulator, where an instruction has");
+    println!("another price: the ratio is a hint and the times are none, so measure on x86-64");
+    let program = Path::new(env!("OUT_DIR")).join("timing");
+    let source = Path::new(env!("CARGO_MANIFEST_DIR")).join("c/timing.c");
+    kit::build(&source, &["-std=c99", "-O3"], Path::new(env!("M25P_ARCHIVE")), &program)?;
+    let ended = kit::command(&program)?.status().map_err(|e| e.to_string())?;
+    ended.success().then_some(()).ok_or(format!("{}: {ended}", program.display()))
+}
+
 fn timed(mut work: impl FnMut()) -> Duration {
     let start = Instant::now();
     work();
@@ -120,6 +134,9 @@ fn time_erases(name: &str, part: u32) {
 }
 
 fn main() {
+    if !kit::NATIVE {
+        return emulated().unwrap_or_else(|why| panic!("{why}"));
+    }
     println!("middle of {ROUNDS} rounds; buffers written before, so no page is touched first");
     println!("{:<32} {:>13} {:>13}   ratio", "", "C call", "plain Rust");
     for (name, part) in [("M25P32", 3), ("M25P128", 4)] {
