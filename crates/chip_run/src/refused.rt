@@ -1,0 +1,114 @@
+// What the host side refuses: deliveries, and transactions whose lengths a script cannot have.
+use crate::steps;
+use crate::text;
+use device::Checked;
+use device::Device;
+
+// A delivery on an array of 33s.
+fn given(part: u32, a: &mut [u8], program: u32, write_status: u32) -> Checked {
+    slices::fill(a, 0x33);
+    chip::deliver(part, a, program, 5, 9, write_status)
+}
+
+// Prints a delivery's answer, whether the record is the all-zero one, and what became of the array.
+fn print_given(name: &[u8], x: Checked, a: &[u8]) {
+    let d = x.device;
+    let zero = Device::zero();
+    io::write_all(1, name);
+    text::print_number(x.answer as u64);
+    text::print_choice(steps::same_record(d, zero), b" zero", b" given");
+    text::print_choice(text::all_are(a, 0, 0x33), b" kept", b" changed");
+    text::print_choice(text::all_are(a, 0, 0xFF), b" erased\n", b" not erased\n");
+}
+
+// One delivery.
+fn delivery(name: &[u8], part: u32, a: &mut [u8], program: u32, write_status: u32) {
+    let x = given(part, a, program, write_status);
+    print_given(name, x, a);
+}
+
+// Deliveries that are refused, in the order of the checks 1, 2, 7, and one that is not.
+pub fn deliveries() {
+    let mut a = [0; 4096];
+    let mut short = [0; 4095];
+    // part above 4: 1
+    delivery(b"delivery-part-5", 5, &mut a, 3, 2);
+    // a part number that is a known one in its low byte: 1
+    delivery(b"delivery-part-256", 256, &mut a, 3, 2);
+    // the array's length differs from the part's: 2
+    delivery(b"delivery-length", 0, &mut short, 3, 2);
+    delivery(b"delivery-other-part", 1, &mut a, 3, 2);
+    // a duration outside 1 to 1,000,000: 7
+    delivery(b"delivery-duration-0", 0, &mut a, 0, 2);
+    delivery(b"delivery-duration-1000001", 0, &mut a, 3, 1_000_001);
+    // 1 before 2, 2 before 7
+    delivery(b"delivery-part-first", 5, &mut short, 0, 2);
+    delivery(b"delivery-length-next", 0, &mut short, 0, 2);
+    // both ends of the durations: 0
+    delivery(b"delivery-ends", 0, &mut a, 1, 1_000_000);
+}
+
+// An array that is one byte short: 2, before the 4 of eight further pulses.
+pub fn array_length() {
+    let mut a = [0; 4096];
+    let mut b = [0; 4096];
+    let mut short_a = [0; 4095];
+    let mut short_b = [0; 4095];
+    let mut r = [0; 4];
+    let mut s = [0; 4];
+    let t = steps::begin(b"array-length", 0, &mut a, &mut b);
+    let t = steps::exchange(
+        t,
+        &mut short_a,
+        &mut short_b,
+        b"\x05\x00",
+        8,
+        true,
+        &mut r,
+        &mut s,
+    );
+    steps::finish(t);
+}
+
+// A response of three bytes: eight further pulses give 4, four bytes sent give 5, three are executed.
+pub fn response_short() {
+    let mut a = [0; 4096];
+    let mut b = [0; 4096];
+    let mut r = [0; 3];
+    let mut s = [0; 3];
+    let t = steps::begin(b"response-short", 0, &mut a, &mut b);
+    let t = steps::exchange(
+        t,
+        &mut a,
+        &mut b,
+        b"\x05\x00\x00\x00",
+        8,
+        true,
+        &mut r,
+        &mut s,
+    );
+    let t = steps::exchange(
+        t,
+        &mut a,
+        &mut b,
+        b"\x05\x00\x00\x00",
+        0,
+        true,
+        &mut r,
+        &mut s,
+    );
+    let t = steps::exchange(t, &mut a, &mut b, b"\x05\x00\x00", 0, true, &mut r, &mut s);
+    steps::finish(t);
+}
+
+// 65,537 bytes: 3, before the 4 of eight further pulses and the 5 of a short response.
+pub fn too_many() {
+    let sent = [5; 65_537];
+    let mut a = [0; 4096];
+    let mut b = [0; 4096];
+    let mut r = [0; 1];
+    let mut s = [0; 1];
+    let t = steps::begin(b"n-65537", 0, &mut a, &mut b);
+    let t = steps::exchange(t, &mut a, &mut b, &sent, 8, true, &mut r, &mut s);
+    steps::finish(t);
+}

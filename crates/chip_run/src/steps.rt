@@ -1,0 +1,362 @@
+// One case at a time, run side by side through the entry by value and through the entry that takes the record lent.
+//
+// A script is a run of steps parted by semicolons:
+//   x W bits hex   one transaction: prints the answer (number, first, count), the response, and three marks:
+//                  r the record changed, a the array changed, b the response changed from byte n on
+//   w t            waits t ticks, one digit: prints the answer
+//   p              powers up: prints the answer
+//   a address      prints the array byte there
+//   s              prints the status byte and the mode
+//   = S B L        SRWD, BP and the latch are set, in standby: prints nothing
+// The response holds 55 in each byte before a transaction. The line ends with `same` where answers, records, arrays and responses of both entries were the same at each step.
+use crate::text;
+use chip::Answer;
+use chip::Done;
+use device::Device;
+use device::Mode;
+use slices::byte_at;
+
+// The record of each entry, and whether all was the same so far.
+pub struct Two {
+    pub by_value: Device,
+    pub lent: Device,
+    pub same: bool,
+}
+
+// A mode as a number: standby 0, deep 1, busy 2 and the ticks left.
+fn mode_number(mode: Mode) -> u64 {
+    match mode {
+        Mode::Standby => 0,
+        Mode::Busy(left) => left as u64 + 2,
+        Mode::Deep => 1,
+    }
+}
+
+// Whether two bools are equal.
+fn same_bool(a: bool, b: bool) -> bool {
+    if a { b } else { !b }
+}
+
+// Whether two records are the same, field by field.
+pub fn same_record(d: Device, e: Device) -> bool {
+    let m = d.mode;
+    let n = e.mode;
+    let modes = mode_number(m) == mode_number(n);
+    let bits = same_bool(d.srwd, e.srwd) & same_bool(d.latch, e.latch);
+    let short = (d.program == e.program) & (d.sector_erase == e.sector_erase);
+    let long = (d.bulk_erase == e.bulk_erase) & (d.write_status == e.write_status);
+    modes & bits & short & long & (d.part == e.part) & (d.bp == e.bp)
+}
+
+// Whether two answers are the same.
+fn same_answer(x: Answer, y: Answer) -> bool {
+    (x.number == y.number) & (x.first == y.first) & (x.count == y.count)
+}
+
+// Prints an answer.
+fn print_answer(x: Answer) {
+    io::write_all(1, b" |");
+    text::print_number(x.number as u64);
+    text::print_number(x.first as u64);
+    text::print_number(x.count as u64);
+    io::write_all(1, b" ");
+}
+
+// Prints the three marks.
+fn print_marks(record: bool, array: bool, beyond: bool) {
+    text::print_choice(record, b" -", b" r");
+    text::print_choice(array, b"-", b"a");
+    text::print_choice(beyond, b"-", b"b");
+}
+
+// One transaction by value, on a response of 55s.
+fn first(d: Device, a: &mut [u8], sent: &[u8], pulses: u32, w: bool, r: &mut [u8]) -> Done {
+    slices::fill(r, 0x55);
+    chip::transact(d, a, sent, pulses, w, r)
+}
+
+// The same through the entry that takes the record lent.
+fn second(e: Device, b: &mut [u8], sent: &[u8], pulses: u32, w: bool, s: &mut [u8]) -> Done {
+    slices::fill(s, 0x55);
+    chip::lent::transact_via(e, b, sent, pulses, w, s)
+}
+
+// Prints what the first entry did: `before` and `b` are the record and the array as they were.
+fn print_done(before: Device, x: Done, a: &[u8], b: &[u8], n: usize, r: &[u8]) {
+    let after = x.device;
+    let answer = x.answer;
+    print_answer(answer);
+    text::print_front(r, n);
+    print_marks(
+        same_record(before, after),
+        check::same(a, b),
+        text::all_are(r, n, 0x55),
+    );
+}
+
+// One transaction by value, printed. `b` is the array as it was before.
+fn printed(
+    d: Device,
+    a: &mut [u8],
+    b: &[u8],
+    sent: &[u8],
+    pulses: u32,
+    w: bool,
+    r: &mut [u8],
+) -> Done {
+    let x = first(d, a, sent, pulses, w, r);
+    print_done(d, x, a, b, sent.len(), r);
+    x
+}
+
+// Both records afterwards, and whether all was the same.
+fn compare(same: bool, x: Done, y: Done, a: &[u8], b: &[u8], r: &[u8], s: &[u8]) -> Two {
+    let by_value = x.device;
+    let lent = y.device;
+    let answer = x.answer;
+    let other = y.answer;
+    let numbers = same_answer(answer, other) & same_record(by_value, lent);
+    let bytes = check::same(a, b) & check::same(r, s);
+    Two {
+        by_value,
+        lent,
+        same: same & numbers & bytes,
+    }
+}
+
+// The same through the entry that takes the record lent, compared with what the other did.
+fn compared(
+    same: bool,
+    x: Done,
+    e: Device,
+    a: &[u8],
+    b: &mut [u8],
+    sent: &[u8],
+    pulses: u32,
+    w: bool,
+    r: &[u8],
+    s: &mut [u8],
+) -> Two {
+    let y = second(e, b, sent, pulses, w, s);
+    compare(same, x, y, a, b, r, s)
+}
+
+// One transaction through both entries. Until the second entry runs, its array is what the first one's was before.
+pub fn exchange(
+    t: Two,
+    a: &mut [u8],
+    b: &mut [u8],
+    sent: &[u8],
+    pulses: u32,
+    w: bool,
+    r: &mut [u8],
+    s: &mut [u8],
+) -> Two {
+    let d = t.by_value;
+    let e = t.lent;
+    let x = printed(d, a, b, sent, pulses, w, r);
+    compared(t.same, x, e, a, b, sent, pulses, w, r, s)
+}
+
+// A transaction of a script: its bytes are read into `sent`.
+fn send(
+    t: Two,
+    script: &[u8],
+    at: usize,
+    end: usize,
+    a: &mut [u8],
+    b: &mut [u8],
+    sent: &mut [u8],
+    r: &mut [u8],
+    s: &mut [u8],
+) -> Two {
+    let w = byte_at(script, text::after(at, 2)) == b'1';
+    let pulses = text::digit(byte_at(script, text::after(at, 4)));
+    let n = text::read_bytes(script, text::after(at, 6), end, sent);
+    exchange(t, a, b, text::front(sent, n), pulses as u32, w, r, s)
+}
+
+// Waits, and prints the answer.
+fn wait(t: Two, ticks: u8) -> Two {
+    let d = t.by_value;
+    let e = t.lent;
+    let x = d.wait(ticks as u32);
+    let y = e.wait(ticks as u32);
+    io::write_all(1, b" wait");
+    text::print_number(x.answer as u64);
+    let by_value = x.device;
+    let lent = y.device;
+    Two {
+        by_value,
+        lent,
+        same: t.same & (x.answer == y.answer),
+    }
+}
+
+// Powers up, and prints the answer.
+fn power_up(t: Two) -> Two {
+    let d = t.by_value;
+    let e = t.lent;
+    let x = d.power_up();
+    let y = e.power_up();
+    io::write_all(1, b" power");
+    text::print_number(x.answer as u64);
+    let by_value = x.device;
+    let lent = y.device;
+    Two {
+        by_value,
+        lent,
+        same: t.same & (x.answer == y.answer),
+    }
+}
+
+// A record with other settings and another latch, in standby.
+pub fn settings(d: Device, srwd: bool, bp: u8, latch: bool) -> Device {
+    let settled = d.settled(srwd, bp);
+    settled.moded(latch, Mode::Standby)
+}
+
+// The settings of a script.
+fn set(t: Two, script: &[u8], at: usize) -> Two {
+    let srwd = byte_at(script, text::after(at, 2)) == b'1';
+    let bp = text::digit(byte_at(script, text::after(at, 4)));
+    let latch = byte_at(script, text::after(at, 6)) == b'1';
+    let d = t.by_value;
+    let e = t.lent;
+    let by_value = settings(d, srwd, bp, latch);
+    let lent = settings(e, srwd, bp, latch);
+    Two {
+        by_value,
+        lent,
+        same: t.same,
+    }
+}
+
+// Prints an array byte.
+pub fn print_byte(array: &[u8], at: usize) {
+    io::write_all(1, b" ");
+    io::print_hex(1, at as u64, 6);
+    io::write_all(1, b" is ");
+    io::print_hex(1, text::wide(byte_at(array, at)), 2);
+}
+
+// Prints the status byte and the mode.
+fn print_status(d: Device) {
+    io::write_all(1, b" status ");
+    io::print_hex(1, text::wide(d.status()), 2);
+    let mode = d.mode;
+    match mode {
+        Mode::Standby => {
+            io::write_all(1, b" standby");
+        }
+        Mode::Busy(left) => {
+            io::write_all(1, b" busy");
+            text::print_number(left as u64);
+        }
+        Mode::Deep => {
+            io::write_all(1, b" deep");
+        }
+    }
+}
+
+// One step of a script, from `at` to `end`.
+fn step(
+    t: Two,
+    script: &[u8],
+    at: usize,
+    end: usize,
+    a: &mut [u8],
+    b: &mut [u8],
+    sent: &mut [u8],
+    r: &mut [u8],
+    s: &mut [u8],
+) -> Two {
+    let letter = byte_at(script, at);
+    if letter == b'x' {
+        return send(t, script, at, end, a, b, sent, r, s);
+    }
+    if letter == b'w' {
+        return wait(t, text::digit(byte_at(script, text::after(at, 2))));
+    }
+    if letter == b'p' {
+        return power_up(t);
+    }
+    if letter == b'=' {
+        return set(t, script, at);
+    }
+    if letter == b'a' {
+        print_byte(a, text::address_at(script, text::after(at, 2)));
+        return t;
+    }
+    if letter == b's' {
+        print_status(t.by_value);
+        return t;
+    }
+    t
+}
+
+// The steps of a script, 40 at most.
+fn steps(
+    start: Two,
+    script: &[u8],
+    a: &mut [u8],
+    b: &mut [u8],
+    sent: &mut [u8],
+    r: &mut [u8],
+    s: &mut [u8],
+) -> Two {
+    let mut t = start;
+    let mut at = 0;
+    let mut turns = 40u64;
+    while turns > 0 {
+        let end = text::stop(script, at);
+        t = step(t, script, at, end, a, b, sent, r, s);
+        at = text::after(end, 1);
+        turns -= 1;
+    }
+    t
+}
+
+// Prints the name, and delivers a part to both entries with durations 3, 5, 9, 2 and the latch set.
+pub fn begin(name: &[u8], part: u32, a: &mut [u8], b: &mut [u8]) -> Two {
+    io::write_all(1, name);
+    let x = chip::deliver(part, a, 3, 5, 9, 2);
+    let y = chip::deliver(part, b, 3, 5, 9, 2);
+    let d = x.device;
+    let e = y.device;
+    let by_value = d.latched(true);
+    let lent = e.latched(true);
+    Two {
+        by_value,
+        lent,
+        same: (x.answer == 0) & (y.answer == 0),
+    }
+}
+
+// Back to standby with the latch set, whatever cycle runs.
+pub fn ready(t: Two) -> Two {
+    let d = t.by_value;
+    let e = t.lent;
+    let by_value = settings(d, false, 0, true);
+    let lent = settings(e, false, 0, true);
+    Two {
+        by_value,
+        lent,
+        same: t.same,
+    }
+}
+
+// Ends the line.
+pub fn finish(t: Two) {
+    text::print_choice(t.same, b" same\n", b" differ\n");
+}
+
+// A whole case on a part whose array is lent twice.
+pub fn case(name: &[u8], part: u32, a: &mut [u8], b: &mut [u8], script: &[u8]) {
+    let mut sent = [0; 32];
+    let mut r = [0; 40];
+    let mut s = [0; 40];
+    let start = begin(name, part, a, b);
+    let t = steps(start, script, a, b, &mut sent, &mut r, &mut s);
+    finish(t);
+}

@@ -1,0 +1,228 @@
+// Packs and unpacks records of each part and mode, and records and bytes that are refused, and writes the answers and the 28 bytes.
+use device::Device;
+use device::Mode;
+use device::packing;
+
+// A byte as a number to print.
+fn wide(x: u8) -> u64 {
+    x as u64
+}
+
+// Prints bytes in hexadecimal.
+fn print_bytes(s: &[u8]) {
+    let mut i = 0;
+    while i < s.len() {
+        io::print_hex(1, wide(s[i]), 2);
+        i += 1;
+    }
+}
+
+// Prints a space and an answer.
+fn print_answer(n: u8) {
+    io::write_all(1, b" ");
+    io::print_decimal(1, n as u64);
+}
+
+// Prints the first text where a test holds, else the second.
+fn print_choice(test: bool, yes: &[u8], no: &[u8]) {
+    if test {
+        io::write_all(1, yes);
+    } else {
+        io::write_all(1, no);
+    }
+}
+
+// A record with durations 1,000,000, 1, 258 and 65,536.
+fn record(part: u8, bp: u8, srwd: bool, latch: bool, mode: Mode) -> Device {
+    let delivered = Device::delivered(part, 1_000_000, 1, 258, 65_536);
+    let settled = delivered.settled(srwd, bp);
+    settled.moded(latch, mode)
+}
+
+// The bench part in standby.
+fn standby() -> Device {
+    record(0, 0, false, false, Mode::Standby)
+}
+
+// The M25P40 in a cycle with as many ticks left as there may be.
+fn busy() -> Device {
+    record(2, 7, false, true, Mode::Busy(1_000_000))
+}
+
+// The M25P32 in deep power-down.
+fn deep() -> Device {
+    record(3, 5, true, true, Mode::Deep)
+}
+
+// Packs a record over bytes of 55, unpacks the bytes and packs what came: the three answers, the bytes, and whether both packings are the same.
+fn round(name: &[u8], d: Device) {
+    let mut bytes = [0x55; 28];
+    let mut again = [0; 28];
+    let p = packing::pack(d, &mut bytes);
+    let u = packing::unpack(&bytes);
+    let q = packing::pack(u.device, &mut again);
+    io::write_all(1, name);
+    print_answer(p);
+    print_answer(u.answer);
+    print_answer(q);
+    io::write_all(1, b" ");
+    print_bytes(&bytes);
+    print_choice(check::same(&bytes, &again), b" same\n", b" differ\n");
+}
+
+// Packs a record into a buffer of 55s.
+fn pack_over(d: Device, out: &mut [u8]) -> u8 {
+    slices::fill(out, 0x55);
+    packing::pack(d, out)
+}
+
+// The same, and prints the answer and the buffer afterwards.
+fn pack_into(name: &[u8], d: Device, out: &mut [u8]) {
+    let p = pack_over(d, out);
+    io::write_all(1, name);
+    print_answer(p);
+    io::write_all(1, b" ");
+    print_bytes(out);
+    io::write_all(1, b"\n");
+}
+
+// Packs a record into 28 bytes.
+fn pack_28(name: &[u8], d: Device) {
+    let mut out = [0; 28];
+    pack_into(name, d, &mut out);
+}
+
+// One byte set, where there is one.
+fn put(s: &mut [u8], at: usize, v: u8) {
+    if at < s.len() {
+        s[at] = v;
+    }
+}
+
+// Whether a mode is standby.
+fn is_standby(mode: Mode) -> bool {
+    match mode {
+        Mode::Standby => true,
+        Mode::Busy(_) => false,
+        Mode::Deep => false,
+    }
+}
+
+// Whether a record is the all-zero one.
+fn is_zero(d: Device) -> bool {
+    let mode = d.mode;
+    let short = (d.program == 0) & (d.sector_erase == 0);
+    let long = (d.bulk_erase == 0) & (d.write_status == 0);
+    let settings = (d.part == 0) & (d.bp == 0) & (d.status() == 0);
+    short & long & settings & is_standby(mode)
+}
+
+// Unpacks bytes: the answer, the answer that packing the record handed back gives, and whether it is the all-zero one.
+fn unpack_from(name: &[u8], bytes: &[u8]) {
+    let mut out = [0; 28];
+    let u = packing::unpack(bytes);
+    let d = u.device;
+    let p = packing::pack(d, &mut out);
+    io::write_all(1, name);
+    print_answer(u.answer);
+    print_answer(p);
+    print_choice(is_zero(d), b" zero\n", b" given\n");
+}
+
+// Unpacks a record's bytes after one of them was set.
+fn damaged(name: &[u8], d: Device, at: usize, v: u8) {
+    let mut bytes = [0; 28];
+    packing::pack(d, &mut bytes);
+    put(&mut bytes, at, v);
+    unpack_from(name, &bytes);
+}
+
+// Records that are sound: 0 three times, the bytes by document 01's layout.
+fn sound_ones() {
+    // part, BP, SRWD, latch, mode, three zero bytes, ticks left, four durations: 1,000,000 is 40 42 0F 00
+    round(b"bench-standby", standby());
+    round(b"M25P10-A-standby", record(1, 3, true, true, Mode::Standby));
+    round(b"M25P40-busy", busy());
+    round(b"M25P32-deep", deep());
+    // 66,051 ticks are 03 02 01 00
+    round(
+        b"M25P128-busy",
+        record(4, 0, false, true, Mode::Busy(66_051)),
+    );
+    round(b"bench-deep", record(0, 1, false, false, Mode::Deep));
+}
+
+// Records that are not sound, and buffers of another length: 6, and 8 before it, with nothing written.
+fn refused_packs() {
+    pack_28(b"pack-zero", Device::zero());
+    pack_28(b"pack-part-5", record(5, 0, false, false, Mode::Standby));
+    pack_28(b"pack-bp-4", record(0, 4, false, false, Mode::Standby));
+    pack_28(
+        b"pack-busy-latch-reset",
+        record(0, 0, false, false, Mode::Busy(1)),
+    );
+    pack_28(b"pack-ticks-0", record(0, 0, false, true, Mode::Busy(0)));
+    pack_28(
+        b"pack-ticks-1000001",
+        record(0, 0, false, true, Mode::Busy(1_000_001)),
+    );
+    pack_28(b"pack-M25P128-deep", record(4, 0, false, false, Mode::Deep));
+    let mut short = [0; 27];
+    let mut long = [0; 29];
+    pack_into(b"pack-27", standby(), &mut short);
+    pack_into(b"pack-29", standby(), &mut long);
+    pack_into(b"pack-27-not-sound", Device::zero(), &mut short);
+}
+
+// Bytes that are not the packing of a sound record: 6 with the all-zero record. Where the changed byte gives another sound record: 0.
+fn damaged_in_standby() {
+    damaged(b"part-5", standby(), 0, 5);
+    damaged(b"part-4", standby(), 0, 4);
+    damaged(b"bp-4", standby(), 1, 4);
+    damaged(b"bp-3", standby(), 1, 3);
+    damaged(b"srwd-2", standby(), 2, 2);
+    damaged(b"srwd-1", standby(), 2, 1);
+    damaged(b"latch-2", standby(), 3, 2);
+    damaged(b"latch-255", standby(), 3, 255);
+    damaged(b"mode-3", standby(), 4, 3);
+    damaged(b"mode-1-without-ticks", standby(), 4, 1);
+    damaged(b"mode-2", standby(), 4, 2);
+    damaged(b"padding-5", standby(), 5, 1);
+    damaged(b"padding-6", standby(), 6, 1);
+    damaged(b"padding-7", standby(), 7, 128);
+    damaged(b"ticks-in-standby", standby(), 8, 1);
+    damaged(b"high-ticks-in-standby", standby(), 11, 1);
+}
+
+// The same of durations, ticks left and modes.
+fn damaged_numbers() {
+    damaged(b"program-1000001", standby(), 12, 0x41);
+    damaged(b"program-999999", standby(), 12, 0x3F);
+    damaged(b"sector-erase-0", standby(), 16, 0);
+    damaged(b"bulk-erase-high-byte", standby(), 23, 1);
+    damaged(b"write-status-0", standby(), 26, 0);
+    damaged(b"ticks-1000001", busy(), 8, 0x41);
+    damaged(b"ticks-999999", busy(), 8, 0x3F);
+    damaged(b"busy-latch-reset", busy(), 3, 0);
+    damaged(b"ticks-and-mode-0", busy(), 4, 0);
+    damaged(b"ticks-and-mode-2", busy(), 4, 2);
+    damaged(b"ticks-in-deep", deep(), 9, 1);
+    damaged(b"deep-M25P128", deep(), 0, 4);
+    damaged(b"deep-M25P40", deep(), 0, 2);
+}
+
+// Other lengths: 8, whatever the bytes are.
+fn other_lengths() {
+    unpack_from(b"length-27", &[0; 27]);
+    unpack_from(b"length-29", &[0; 29]);
+    unpack_from(b"length-0", b"");
+    unpack_from(b"length-28-zero", &[0; 28]);
+}
+
+fn main() {
+    sound_ones();
+    refused_packs();
+    damaged_in_standby();
+    damaged_numbers();
+    other_lengths();
+}
