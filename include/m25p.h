@@ -66,6 +66,16 @@ extern "C" {
 #define M25P_MOST_SENT 65536u        /* the most bytes in one transaction */
 #define M25P_MOST_TICKS 1000000u     /* the longest duration */
 
+/* One sample of raw pins: each bit is the level of its pin, bits 5 to 7 are 0. */
+#define M25P_PIN_SELECT 0x01u        /* Chip Select: low while a transaction runs */
+#define M25P_PIN_CLOCK 0x02u
+#define M25P_PIN_DATA 0x04u          /* data in */
+#define M25P_PIN_W 0x08u             /* Write Protect */
+#define M25P_PIN_HOLD 0x10u          /* low to hold */
+#define M25P_PINS_AT_REST 0x19u      /* Select, W and Hold high, clock and data low */
+
+#define M25P_NOT_DRIVEN 2u           /* an output byte of raw pins; a driven one is 0 or 1 */
+
 enum m25p_part {
     M25P_BENCH = 0,
     M25P_M25P10A = 1,
@@ -80,17 +90,18 @@ enum m25p_part {
 #define M25P_M25P32_BYTES 4194304u
 #define M25P_M25P128_BYTES 16777216u
 
-/* Answer numbers. On 1 to 8 the call was refused and has written nothing anywhere. On 11 to 18 the chip
- * ignored the transaction: record and array stay, the latch included, and the response is all FF. */
+/* Answer numbers. On 1 to 8 and 21 to 23 the call was refused and has written nothing anywhere. On 11 to
+ * 18 the chip ignored the transaction: record and array stay, the latch included, and the response is all
+ * FF. */
 enum m25p_number {
     M25P_EXECUTED = 0,          /* done */
 
     M25P_UNKNOWN_PART = 1,      /* deliver: part above 4 */
-    M25P_ARRAY_LENGTH = 2,      /* deliver, transact: array_len is not the part's size */
+    M25P_ARRAY_LENGTH = 2,      /* deliver, transact, pins: array_len is not the part's size */
     M25P_SENT_LENGTH = 3,       /* transact: sent_len above 65,536 */
     M25P_PULSES = 4,            /* transact: further pulses above 7 */
     M25P_RESPONSE_LENGTH = 5,   /* transact: response_len below sent_len */
-    M25P_RECORD_UNSOUND = 6,    /* transact, wait, power_up: not the packing of a sound record */
+    M25P_RECORD_UNSOUND = 6,    /* all but deliver: not the packing of a sound record */
     M25P_DURATION = 7,          /* deliver: a duration outside 1 to 1,000,000 */
     M25P_RECORD_LENGTH = 8,     /* all: record_len is not 28 */
 
@@ -101,13 +112,18 @@ enum m25p_number {
     M25P_WRONG_FORM = 15,       /* number of bytes, or further pulses, not as the instruction needs */
     M25P_LATCH_NEEDED = 16,     /* the latch is needed and not set */
     M25P_PROTECTED = 17,        /* PP or SE in a protected sector; BE with BP above 0 */
-    M25P_STATUS_FROZEN = 18     /* WRSR with SRWD set and W low */
+    M25P_STATUS_FROZEN = 18,    /* WRSR with SRWD set and W low */
+
+    M25P_SAMPLE_BITS = 21,      /* pins: a sample with any of bits 5 to 7 set */
+    M25P_PINS_LENGTH = 22,      /* pins: a transaction of more than 65,536 bytes */
+    M25P_OUTPUT_LENGTH = 23     /* pins: output_len below samples_len */
 };
 
 /* Each call gives the first number that applies, in this order:
  *   m25p_deliver            8, 1, 2, 7
  *   m25p_wait, m25p_power_up  8, 6
  *   m25p_transact           8, 6, 2, 3, 4, 5, then 11, 14, 12, 13, 15, 16, 17, 18
+ *   m25p_pins               8, 6, 2, 21, 22, 23
  */
 
 /* A part as it comes from the factory: the array all FF, BP 0, SRWD 0, latch reset, standby, with the
@@ -160,6 +176,44 @@ uint64_t m25p_wait(uint8_t *record, size_t record_len, uint32_t ticks);
 /* Power off and on: standby, latch reset; BP, SRWD, durations and array are kept, and a running cycle
  * counts as finished. */
 uint64_t m25p_power_up(uint8_t *record, size_t record_len);
+
+/* Raw pins: what a probe saw, one byte for each sample (M25P_PIN_SELECT and so on), is found to be
+ * transactions, and these are carried out in order, each as by m25p_transact. output: byte i of its first
+ * samples_len is the level of the data output after sample i, 0 or 1, or 2 where the chip does not drive
+ * it; bytes from samples_len on are left as they are.
+ *
+ * Each run starts from rest (M25P_PINS_AT_REST); no pin is remembered from one run to the next. In a
+ * sample a Select change is taken first, then the clock, then Hold; data and W are the levels of that
+ * very sample.
+ *
+ *   Select falls  A transaction begins. The output is 2 until a clock fall reaches a driven bit. If Hold
+ *                 was low before this sample, that counts as a fall of Hold now, with the clock as it was
+ *                 before this sample.
+ *   Clock rises   With Select low and no hold, a bit is taken from data in, most significant bit first.
+ *   Clock falls   With Select low and no hold, the output moves on: with m bits taken it shows bit
+ *                 7 - m % 8 of what the chip drives after the first m / 8 bytes, or 2. Bits of an
+ *                 unfinished last byte show, too.
+ *   Hold falls    With the clock low the hold starts; otherwise when the clock next falls, after the
+ *                 output has moved on. In a hold the output is 2, and no bit is taken.
+ *   Hold rises    With the clock low the hold ends; otherwise when the clock next falls. The output is
+ *                 then the one from before the hold. A fall or rise that is undone before the clock is
+ *                 low counts for nothing.
+ *   Select rises  The transaction ends and is carried out with the whole bytes taken, the 0 to 7 further
+ *                 pulses, and W as it is in this sample. In a hold, one whose end still waits included,
+ *                 it is thrown away and has no effect; a hold whose start still waits does not count.
+ *
+ * A transaction that is unfinished at the end of the run has no effect either. No ticks pass within a
+ * run: a chip that became busy stays so until m25p_wait. A transaction that the chip ignores (11 to 18)
+ * does not refuse the run, and its number is not told. An answer of 0 says that the run was carried out;
+ * first and count are always 0.
+ *
+ * 21 goes by all samples. 22 goes by the pins alone and counts the whole bytes of every transaction,
+ * thrown away and unfinished ones too; 65,536 bytes and 7 further pulses are allowed. A refused run
+ * changes nothing: record, array and output stay as they are. */
+uint64_t m25p_pins(uint8_t *record, size_t record_len,
+                   uint8_t *array, size_t array_len,
+                   const uint8_t *samples, size_t samples_len,
+                   uint8_t *output, size_t output_len);
 
 /* The answer number, one of enum m25p_number. */
 static inline unsigned m25p_answer(uint64_t answer)

@@ -14,6 +14,7 @@ static uint8_t record[M25P_RECORD_BYTES];
 static uint8_t array[M25P_BENCH_BYTES];
 static uint8_t sent[M25P_MOST_SENT + 1];
 static uint8_t response[M25P_MOST_SENT + 1];
+static const uint8_t samples[3] = {M25P_PINS_AT_REST, M25P_PIN_W | M25P_PIN_HOLD, M25P_PINS_AT_REST};
 static uint8_t *huge;
 
 static void show(const char *name, uint64_t a)
@@ -29,6 +30,11 @@ static void fresh(void)
 static uint64_t send(const uint8_t *bytes, size_t n, uint32_t pulses, uint32_t w, uint8_t *q, size_t length)
 {
     return m25p_transact(record, sizeof record, array, sizeof array, bytes, n, pulses, w, q, length);
+}
+
+static uint64_t probe(const uint8_t *bytes, size_t n, uint8_t *output, size_t length)
+{
+    return m25p_pins(record, sizeof record, array, sizeof array, bytes, n, output, length);
 }
 
 /* Every slice of every call empty in turn, at an address or at none. */
@@ -47,9 +53,16 @@ static void empty(const char *kind, uint8_t *none)
     show("transact response", send(sent, 1, 0, 1, none, 0));
     show("transact sent and response", send(none, 0, 0, 1, none, 0));
     show("transact all", m25p_transact(none, 0, none, 0, none, 0, 0, 1, none, 0));
+    show("pins record", m25p_pins(none, 0, array, sizeof array, samples, 3, response, 3));
+    show("pins array", m25p_pins(record, sizeof record, none, 0, samples, 3, response, 3));
+    show("pins samples", probe(none, 0, response, sizeof response));
+    show("pins output", probe(samples, 3, none, 0));
+    show("pins samples and output", probe(none, 0, none, 0));
+    show("pins all", m25p_pins(none, 0, none, 0, none, 0, none, 0));
 }
 
-/* Lengths that are right only if they are cut to 32 bits, and a response that is wrong only then. */
+/* Lengths that are right only if they are cut to 32 bits, and a response and an output that are wrong
+ * only then. */
 static void beyond_32_bits(void)
 {
     size_t over = (size_t)1 << 32;
@@ -66,6 +79,11 @@ static void beyond_32_bits(void)
     sent[0] = 0x9F;
     show("transact response", send(sent, 4, 0, 1, huge, over));
     printf("%02X %02X %02X %02X\n", huge[0], huge[1], huge[2], huge[3]);
+    memcpy(huge, record, sizeof record);
+    show("pins record", m25p_pins(huge, over + 28, array, sizeof array, samples, 3, response, 3));
+    show("pins array", m25p_pins(record, sizeof record, huge, over + 4096, samples, 3, response, 3));
+    show("pins output", probe(samples, 3, huge, over));
+    printf("%u %u %u\n", huge[0], huge[1], huge[2]);
 }
 
 /* Numbers that are right only if they are cut to 8 or 16 bits. */
@@ -102,6 +120,17 @@ static void longest(void)
     show("program 65536", send(sent, 65536, 0, 0, response, 65536));
 }
 
+/* The refusals of raw pins. */
+static void pins(void)
+{
+    const uint8_t odd[2] = {M25P_PINS_AT_REST, 0x80};
+    printf("raw pins\n");
+    fresh();
+    show("rest", probe(samples, 3, response, 3));
+    show("bit 7", probe(odd, 2, response, 1));
+    show("short output", probe(samples, 3, response, 2));
+}
+
 int main(void)
 {
     huge = mmap(NULL, HUGE_BYTES, PROT_READ | PROT_WRITE, MAP_PRIVATE | MAP_ANONYMOUS | MAP_NORESERVE, -1, 0);
@@ -114,6 +143,7 @@ int main(void)
     beyond_32_bits();
     full_numbers();
     longest();
+    pins();
     sent[0] = 0x05;
     empty("NULL", NULL);
     return 0;

@@ -58,6 +58,8 @@ static uint64_t call(const struct request *r)
         return m25p_wait(at[0], len[0], n[0]);
     case 3:
         return m25p_power_up(at[0], len[0]);
+    case 4:
+        return m25p_pins(at[0], len[0], at[1], len[1], at[2], len[2], at[3], len[3]);
     default:
         fprintf(stderr, "bridge: there is no call %u\n", (unsigned)r->call);
         exit(1);

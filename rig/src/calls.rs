@@ -1,4 +1,4 @@
-//! The four C calls of libm25p.a as safe Rust: on slices of any length, and as a chip that owns them.
+//! The five C calls of libm25p.a as safe Rust: on slices of any length, and as a chip that owns them.
 
 // Where the library runs: in this process, or behind a bridge on a machine that can't link it.
 #[cfg(not(target_arch = "x86_64"))]
@@ -43,10 +43,13 @@ pub enum Answer {
     LatchNeeded = 16,
     Protected = 17,
     StatusFrozen = 18,
+    SampleBits = 21,
+    PinsLength = 22,
+    OutputLength = 23,
 }
 
 impl Answer {
-    pub const ALL: [Answer; 17] = [
+    pub const ALL: [Answer; 20] = [
         Answer::Executed,
         Answer::UnknownPart,
         Answer::ArrayLength,
@@ -64,6 +67,9 @@ impl Answer {
         Answer::LatchNeeded,
         Answer::Protected,
         Answer::StatusFrozen,
+        Answer::SampleBits,
+        Answer::PinsLength,
+        Answer::OutputLength,
     ];
 }
 
@@ -125,6 +131,10 @@ pub fn power_up(record: &mut [u8]) -> Reply {
     Reply(library::power_up(record))
 }
 
+pub fn pins(record: &mut [u8], array: &mut [u8], samples: &[u8], output: &mut [u8]) -> Reply {
+    Reply(library::pins(record, array, samples, output))
+}
+
 /// A chip that owns its record and its array.
 pub struct Chip {
     record: [u8; RECORD_BYTES],
@@ -148,6 +158,13 @@ impl Chip {
         let w = u32::from(w_high);
         let reply = transact(&mut self.record, &mut self.array, sent, pulses, w, &mut response);
         (reply, response)
+    }
+
+    /// A run of raw pins: the answer, and one output byte for each sample.
+    pub fn pins(&mut self, samples: &[u8]) -> (Reply, Vec<u8>) {
+        let mut output = vec![0; samples.len()];
+        let reply = pins(&mut self.record, &mut self.array, samples, &mut output);
+        (reply, output)
     }
 
     pub fn wait(&mut self, ticks: u32) -> Answer {

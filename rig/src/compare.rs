@@ -191,7 +191,8 @@ impl Pair {
     }
 }
 
-fn same(what: &str, start: usize, real: &[u8], expected: &[u8]) -> Result<(), String> {
+/// The first byte that differs, if any, in words.
+pub fn same(what: &str, start: usize, real: &[u8], expected: &[u8]) -> Result<(), String> {
     if real == expected {
         return Ok(());
     }

@@ -1,8 +1,7 @@
 //! The rig: safe calls over libm25p.a, a model of the written rules, and what compares the two.
 //!
-//! `rig/run`, or `cargo test --release` here, compares; RIG_CALLS and RIG_SEED make the run longer or
-//! another one.
-//! `cargo run --release --bin timing` measures.
+//! `cargo test --release` compares; RIG_CALLS and RIG_SEED make the run longer or another one.
+//! `cargo run --release --bin timing` measures, and `cargo run --release --bin pins` runs a probe's file.
 
 pub mod bench_model;
 pub mod calls;
@@ -10,7 +9,13 @@ pub mod compare;
 pub mod generate;
 pub mod kit;
 pub mod model;
+pub mod pins_compare;
+pub mod pins_generate;
+pub mod pins_model;
+pub mod plain_pins;
+pub mod probe;
 pub mod rng;
+pub mod vcd;
 
 /// Writes a line past the tests' capture, so that it is always seen.
 pub fn tell(text: &str) {

@@ -300,6 +300,14 @@ impl Model {
         }
     }
 
+    /// What the chip drives during the last of these bytes; that byte itself does not matter.
+    pub fn drives_last(&self, r: &Record, array: &[u8], sent: &[u8]) -> Option<u8> {
+        if self.ignored(r, Transaction { sent, pulses: 0, w: 1 }) != 0 {
+            return None;
+        }
+        self.driven(r, array, sent, sent.len() - 1)
+    }
+
     /// What an executed transaction does to record and array.
     fn change(&self, r: &mut Record, array: &mut [u8], sent: &[u8]) {
         let part = r.figures();

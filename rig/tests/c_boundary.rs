@@ -51,6 +51,12 @@ transact sent: 11 0 0
 transact response: 5 0 0
 transact sent and response: 11 0 0
 transact all: 8 0 0
+pins record: 8 0 0
+pins array: 2 0 0
+pins samples: 0 0 0
+pins output: 23 0 0
+pins samples and output: 0 0 0
+pins all: 8 0 0
 ";
 
 const LIMITS: &str = "\
@@ -64,6 +70,10 @@ transact array: 2 0 0
 transact sent: 3 0 0
 transact response: 0 1 3
 FF 00 00 0C
+pins record: 8 0 0
+pins array: 2 0 0
+pins output: 0 0 0
+2 2 2
 full numbers
 part 256: 1 0 0
 part 65536: 1 0 0
@@ -79,6 +89,10 @@ read 65536: 0 4 65532
 read 65537: 3 0 0
 short response: 5 0 0
 program 65536: 0 0 0
+raw pins
+rest: 0 0 0
+bit 7: 21 0 0
+short output: 23 0 0
 ";
 
 #[test]

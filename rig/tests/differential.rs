@@ -36,7 +36,8 @@ fn calls_equal_model() {
         }
     }
     tell(&format!("differential: {}", tally.show()));
-    for answer in Answer::ALL {
+    // 21 and above are answers of raw pins, which a test of their own compares.
+    for answer in Answer::ALL.into_iter().filter(|answer| (*answer as u8) < 21) {
         let times = tally.answers[answer as usize];
         assert!(times >= 20, "answer {} came {times} times only", answer as u8);
     }

@@ -32,7 +32,7 @@ pub fn refused(device: Device, array: usize, n: usize, pulses: u32, response: us
 }
 
 // Whether a cycle runs.
-pub fn is_busy(mode: Mode) -> bool
+pub(crate) fn is_busy(mode: Mode) -> bool
     ensures { λ r. ⌜ r ≡ isBusy mode ⌝ }
 {
     match mode {
@@ -43,7 +43,7 @@ pub fn is_busy(mode: Mode) -> bool
 }
 
 // Whether it is deep power-down.
-pub fn is_deep(mode: Mode) -> bool
+pub(crate) fn is_deep(mode: Mode) -> bool
     ensures { λ r. ⌜ r ≡ isDeep mode ⌝ }
 {
     match mode {
@@ -135,7 +135,7 @@ fn decide(host: u8, chip: u8) -> Verdict
 }
 
 // What becomes of a transaction with an array and a response of these lengths.
-pub fn judge(
+pub(crate) fn judge(
     device: Device,
     array: usize,
     sent: &[u8],

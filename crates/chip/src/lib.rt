@@ -9,7 +9,7 @@ ghost use Rattle.chip.specs.declared.answers.Verdict.the-variants.{Execu
 pub mod answers;
 mod change;
 pub mod lent;
-mod line;
+pub mod line;
 mod table;
 
 use answers::Verdict;

@@ -1,7 +1,10 @@
 // The response line: what the chip drives, from which byte on, and how many.
 ghost use mathlib.Core.Path.{_≡_};
+ghost use Prim.Native.Nat.{_+_, _%_, _<_};
+ghost use lib.ListN.{length, getD};
 ghost use Rattle.slices.specs.Changed.{mapAt};
-ghost use Rattle.chip.specs.Line.{identification, kth, onLine, heard, heardRow, spanOf, fromOn, Responded};
+ghost use Rattle.chip.specs.Line.{identification, kth, onLine, heard, heardRow, driven, drives, spanOf, fromOn, Responded};
+ghost use Rattle.chip.specs.During.{during};
 use crate::answers::is_busy;
 use crate::answers::is_deep;
 use crate::table::Drive;
@@ -86,7 +89,7 @@ fn row_heard(device: Device, sent: &[u8]) -> Row
 }
 
 // The response line.
-pub fn respond(device: Device, array: &[u8], sent: &[u8], response: &mut [u8]) -> Span
+pub(crate) fn respond(device: Device, array: &[u8], sent: &[u8], response: &mut [u8]) -> Span
     ensures { λ s. ⌜ Responded device (now (array .entry)) (now (sent .entry)) (now (response .entry)) s (now (response .exit)) ⌝ }
 {
     let figures = Figures::of(device.part);
@@ -107,4 +110,72 @@ pub fn respond(device: Device, array: &[u8], sent: &[u8], response: &mut [u8]) -
         &mut response[start..n],
     );
     s
+}
+
+// One of the three identification bytes, then 00.
+fn identification_byte(figures: Figures, k: usize) -> u8
+    ensures { λ r. ⌜ r ≡ identification figures k ⌝ }
+{
+    let three = [figures.maker, figures.memory_type, figures.capacity];
+    slices::byte_at(&three, k)
+}
+
+// Byte `i` of the array, rolling over; FF where there is no array.
+fn array_byte(array: &[u8], i: usize) -> u8
+    ensures { λ r. ⌜ r ≡ getD (now (array .entry)) (i % length (now (array .entry))) 255 ⌝ }
+{
+    if array.len() == 0 {
+        return 0xFF;
+    }
+    let at = i % array.len();
+    array[at]
+}
+
+// What the chip does with the line during one byte; `byte` is 0 where nothing is driven.
+pub struct During {
+    pub driven: bool,
+    pub byte: u8,
+}
+
+// A byte is driven.
+fn drives(byte: u8) -> During
+    ensures { λ r. ⌜ r ≡ during (drives byte) ⌝ }
+{
+    During { driven: true, byte }
+}
+
+// Driven byte k, counted from the first.
+fn kth_byte(how: Drive, figures: Figures, status: u8, array: &[u8], at: usize, k: usize) -> During
+    requires { ⌜ at + k < 18446744073709551616 ⌝ }
+    ensures { λ r. ⌜ r ≡ during (kth how figures status (now (array .entry)) at k) ⌝ }
+{
+    match how {
+        Drive::Nothing => During {
+            driven: false,
+            byte: 0,
+        },
+        Drive::Identification => drives(identification_byte(figures, k)),
+        Drive::Status => drives(status),
+        Drive::Array => drives(array_byte(array, at + k)),
+        Drive::Signature => drives(figures.signature),
+    }
+}
+
+// What is driven during the byte that comes after the bytes before.
+pub fn driven_byte(device: Device, array: &[u8], before: &[u8]) -> During
+    ensures { λ r. ⌜ r ≡ during (driven device (now (array .entry)) (now (before .entry))) ⌝ }
+{
+    let figures = Figures::of(device.part);
+    let row = row_heard(device, before);
+    let from = row.from;
+    let how = row.drive;
+    if before.len() < from {
+        return During {
+            driven: false,
+            byte: 0,
+        };
+    }
+    let k = before.len() - from;
+    let at = address(figures, before) as usize;
+    kth_byte(how, figures, device.status(), array, at, k)
 }

@@ -27,7 +27,7 @@ use Rattle.m25p.specs.Calls.{packedAnswer, high, packedBy, transactedC, 
 -- ---- packing
 
 -- the number that unpacking answers
-named : (b : List ℕ) → unpackOf b .answer ≡ unpackAnswer b
+pub named : (b : List ℕ) → unpackOf b .answer ≡ unpackAnswer b
 unfolding unpackOf
 named b = refl
 

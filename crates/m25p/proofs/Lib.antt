@@ -1,2 +1,3 @@
 -- Laws of the C calls.
 pub mod Laws
+pub mod Pins

@@ -1,2 +1,3 @@
 -- What the C calls mean.
 pub mod Calls
+pub mod Pins

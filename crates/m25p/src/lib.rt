@@ -1,7 +1,8 @@
-// The C calls: delivery, transaction, wait and power-up over the 28 packed bytes of a record.
+// The C calls: delivery, transaction, wait, power-up and raw pins over the 28 packed bytes of a record.
 ghost use mathlib.Core.Path.{_≡_};
 ghost use Rattle.device.specs.Device.{waitCall, powerUpCall};
 ghost use Rattle.m25p.specs.Calls.{packedAnswer, transactedC, Called, checkedC, CalledOn, DeliveredC};
+ghost use Rattle.m25p.specs.Pins.{RanC};
 ghost use Rattle.chip.specs.Outcome;
 use chip::Answer;
 use device::packing::pack;
@@ -100,4 +101,26 @@ pub extern "C" fn m25p_power_up(packed: &mut [u8]) -> u64
     let done = came.device.power_up();
     pack(done.device, packed);
     bare(0)
+}
+
+// A run over samples of the pins: the transactions carried out in order, and one output byte for each sample.
+#[no_mangle]
+pub extern "C" fn m25p_pins(
+    packed: &mut [u8],
+    array: &mut [u8],
+    samples: &[u8],
+    output: &mut [u8],
+) -> u64
+    ensures { λ r. ⌜ RanC (now (packed .entry)) (now (array .entry)) (now (samples .entry)) (now (output .entry)) r (now (packed .exit)) (now (array .exit)) (now (output .exit)) ⌝ }
+{
+    let came = unpack(packed);
+    if came.answer != 0 {
+        return bare(came.answer);
+    }
+    let done = pins::run(came.device, array, samples, output);
+    if done.answer == 0 {
+        pack(done.device, packed);
+        return bare(0);
+    }
+    bare(done.answer)
 }

@@ -1,5 +1,5 @@
-//! Times long reads and bulk erase through the C calls against plain Rust, side by side in one run; where
-//! the library runs under an emulator, against plain C there.
+//! Times long reads, bulk erase and raw pins through the C calls against plain Rust, side by side in one
+//! run; where the library runs under an emulator, against plain C there.
 
 use std::hint::black_box;
 use std::path::Path;
@@ -7,11 +7,15 @@ use std::time::{Duration, Instant};
 
 use rig::calls::{self, Durations, ARRAY_BYTES};
 use rig::kit;
+use rig::plain_pins;
+use rig::probe::{Probe, SpiMode};
+use rig::rng::Rng;
 
 const READ_BYTES: usize = 60_000;
 const ROUNDS: usize = 15;
 const READS: usize = 2_000;
 const ERASES: usize = 4;
+const SAMPLES: usize = 10_000_000;
 const DURATIONS: Durations =
     Durations { program: 1, sector_erase: 1, bulk_erase: 1, write_status: 1 };
 
@@ -70,15 +74,23 @@ impl Both {
     }
 }
 
-/// All this in c/timing.c instead, for a machine that runs libm25p.a under an emulator.
-fn emulated() -> Result<(), String> {
-    println!("middle of {ROUNDS} rounds; both run under an emulator, where an instruction has");
-    println!("another price: the ratio is a hint and the times are none, so measure on x86-64");
-    let program = Path::new(env!("OUT_DIR")).join("timing");
-    let source = Path::new(env!("CARGO_MANIFEST_DIR")).join("c/timing.c");
-    kit::build(&source, &["-std=c99", "-O3"], Path::new(env!("M25P_ARCHIVE")), &program)?;
+/// Builds and runs a program of c/.
+fn in_c(name: &str) -> Result<(), String> {
+    let program = Path::new(env!("OUT_DIR")).join(name);
+    let source = Path::new(env!("CARGO_MANIFEST_DIR")).join("c").join(name).with_extension("c");
+    let flags = ["-std=c99", "-O3", "-Wall", "-Wextra", "-Wpedantic", "-Werror"];
+    kit::build(&source, &flags, Path::new(env!("M25P_ARCHIVE")), &program)?;
     let ended = kit::command(&program)?.status().map_err(|e| e.to_string())?;
     ended.success().then_some(()).ok_or(format!("{}: {ended}", program.display()))
+}
+
+/// All this in C instead, for a machine that runs libm25p.a under an emulator.
+fn emulated() -> Result<(), String> {
+    println!("both run under an emulator, where an instruction has another price: the ratio is a");
+    println!("hint and the times are none, so measure on x86-64. Reads and erases: the middle of");
+    println!("{ROUNDS} rounds. Raw pins: the best of a few, each seen to do the same as plain C.");
+    in_c("timing")?;
+    in_c("timing_pins")
 }
 
 fn timed(mut work: impl FnMut()) -> Duration {
@@ -133,6 +145,53 @@ fn time_erases(name: &str, part: u32) {
     report(&format!("{name} bulk erase"), ERASES, times);
 }
 
+/// Ten million samples: reads of 4,096 bytes with a status read before each, then a page program and
+/// status reads while busy.
+fn samples(mode: SpiMode) -> Vec<u8> {
+    let mut rng = Rng::new(1);
+    let mut probe = Probe::new(mode, 1);
+    let mut program = rng.bytes(260);
+    program[0] = 0x02;
+    while probe.samples.len() < SAMPLES - 100_000 {
+        let mut read = rng.bytes(4 + 4_096);
+        read[0] = 0x03;
+        probe.transaction(&[0x05, 0], 0, true);
+        probe.transaction(&read, 0, true);
+    }
+    probe.transaction(&[0x06], 0, true);
+    probe.transaction(&program, 0, true);
+    while probe.samples.len() < SAMPLES {
+        probe.transaction(&[0x05, 0], 0, true);
+    }
+    probe.samples.truncate(SAMPLES);
+    probe.samples
+}
+
+fn time_pins(name: &str, part: u32, mode: SpiMode) {
+    let mut both = Both::new(part);
+    both.array = Rng::new(2).bytes(both.array.len());
+    both.plain.clone_from(&both.array);
+    let start = both.record;
+    let samples = samples(mode);
+    let (mut output, mut plain_output) = (vec![9; SAMPLES], vec![8; SAMPLES]);
+    let Both { array, plain, .. } = &mut both;
+    let times = middle(|| {
+        let (mut record, mut plain_record) = (start, start);
+        let calls = timed(|| {
+            let reply = calls::pins(&mut record, array, black_box(&samples), &mut output);
+            assert_eq!(reply.0, 0);
+        });
+        let plain = timed(|| {
+            let samples = black_box(&samples);
+            assert_eq!(plain_pins::run(&mut plain_record, plain, samples, &mut plain_output), 0);
+        });
+        assert_eq!(record, plain_record);
+        (calls, plain)
+    });
+    assert!(output == plain_output && both.array == both.plain, "the two do not do the same");
+    report(&format!("{name} 10,000,000 samples"), 1, times);
+}
+
 fn main() {
     if !kit::NATIVE {
         return emulated().unwrap_or_else(|why| panic!("{why}"));
@@ -143,4 +202,6 @@ fn main() {
         time_reads(name, part);
         time_erases(name, part);
     }
+    time_pins("M25P32 mode 0", 3, SpiMode::Zero);
+    time_pins("M25P32 mode 3", 3, SpiMode::Three);
 }

@@ -16,6 +16,7 @@ const DELIVER: u32 = 0;
 const TRANSACT: u32 = 1;
 const WAIT: u32 = 2;
 const POWER_UP: u32 = 3;
+const PINS: u32 = 4;
 
 pub fn deliver(record: &mut [u8], part: u32, array: &mut [u8], durations: Durations) -> u64 {
     let Durations { program, sector_erase, bulk_erase, write_status } = durations;
@@ -42,6 +43,11 @@ pub fn wait(record: &mut [u8], ticks: u32) -> u64 {
 
 pub fn power_up(record: &mut [u8]) -> u64 {
     call(POWER_UP, &mut [Lent::Changed(record)], &[])
+}
+
+pub fn pins(record: &mut [u8], array: &mut [u8], samples: &[u8], output: &mut [u8]) -> u64 {
+    let (record, array) = (Lent::Changed(record), Lent::Changed(array));
+    call(PINS, &mut [record, array, Lent::Kept(samples), Lent::Changed(output)], &[])
 }
 
 /// Makes a call with its slices and its numbers, each in the order of the C call's arguments.

@@ -28,6 +28,16 @@ extern "C" {
     ) -> u64;
     fn m25p_wait(record: *mut u8, record_len: usize, ticks: u32) -> u64;
     fn m25p_power_up(record: *mut u8, record_len: usize) -> u64;
+    fn m25p_pins(
+        record: *mut u8,
+        record_len: usize,
+        array: *mut u8,
+        array_len: usize,
+        samples: *const u8,
+        samples_len: usize,
+        output: *mut u8,
+        output_len: usize,
+    ) -> u64;
 }
 
 /// Bytes that a call is lent without a copy: any bytes are.
@@ -87,4 +97,19 @@ pub fn wait(record: &mut [u8], ticks: u32) -> u64 {
 
 pub fn power_up(record: &mut [u8]) -> u64 {
     unsafe { m25p_power_up(record.as_mut_ptr(), record.len()) }
+}
+
+pub fn pins(record: &mut [u8], array: &mut [u8], samples: &[u8], output: &mut [u8]) -> u64 {
+    unsafe {
+        m25p_pins(
+            record.as_mut_ptr(),
+            record.len(),
+            array.as_mut_ptr(),
+            array.len(),
+            samples.as_ptr(),
+            samples.len(),
+            output.as_mut_ptr(),
+            output.len(),
+        )
+    }
 }

@@ -1,0 +1,57 @@
+-- What the C call of raw pins gives, by what unpacking answers; and that its promise admits one outcome only.
+-- Assumes nothing.
+use mathlib.Core.Path.{_≡_, refl, sym, ap, _∙_}
+use mathlib.Core.List.{List}
+use Prim.Native.Nat.{ℕ, zero, suc}
+use lib.ListN.{length}
+use Rattle.slices.specs.Changed.{mapAt, window}
+use Rattle.device.specs.declared.Device.{Device}
+use Rattle.device.specs.declared.Checked.{Checked}
+use Rattle.device.specs.Device.{onZero}
+use Rattle.device.specs.Packing.{packOf, unpackAnswer, unpackOf}
+use Rattle.chip.specs.Outcome.{bare}
+use Rattle.pins.specs.Run.{chipAfter, outputAt, runAnswer, Ran}
+use Rattle.m25p.specs.Calls.{packedAnswer, packedBy}
+use Rattle.m25p.specs.Pins.{pinsC, RanC}
+use Rattle.m25p.proofs.Laws.{named, written, kept}
+
+other : {A : Type 0} (k : ℕ) (x y : A) → (k ≡ 0 → ⊥) → y ≡ onZero k x y
+other zero x y n = absurd (n refl)
+other (suc k) x y n = refl
+
+module _ (packed array samples output : List ℕ) where
+  -- the packing is refused
+  pub refused : {r : ℕ} → (unpackOf packed .answer ≡ 0 → ⊥) → r ≡ packedAnswer (bare (unpackOf packed .answer)) → RanC packed array samples output r packed array output
+  unfolding pinsC
+  refused n e =
+      let k = unpackAnswer packed in
+      let d = unpackOf packed .device in
+      let m : k ≡ 0 → ⊥ = λ z. n (named packed ∙ z) in
+      let q : k ≡ pinsC packed (length array) samples (length output) = other k (runAnswer d (length array) samples (length output)) k m in
+      let z : pinsC packed (length array) samples (length output) ≡ 0 → ⊥ = λ w. m (q ∙ w) in
+      record {
+        answer = e ∙ ap (λ (j : ℕ). packedAnswer (bare j)) (named packed ∙ q);
+        bytes = kept (pinsC packed (length array) samples (length output)) (chipAfter d array samples .device) packed z;
+        memory = other (pinsC packed (length array) samples (length output)) (chipAfter d array samples .array) array z;
+        shown = other (pinsC packed (length array) samples (length output)) (mapAt (window 0 (length samples) (outputAt d array samples)) output) output z;
+      }
+
+  -- the packing is that of a sound record
+  pub ran : {r : ℕ} {packed′ array′ output′ : List ℕ} {c : Checked} → unpackOf packed .answer ≡ 0 → Ran (unpackOf packed .device) array samples output c array′ output′ → r ≡ packedAnswer (bare (c .answer))
+      → packed′ ≡ packedBy (c .answer) (chipAfter (unpackOf packed .device) array samples .device) packed → RanC packed array samples output r packed′ array′ output′
+  unfolding pinsC
+  ran {c = c} z m e p =
+      let y : unpackAnswer packed ≡ 0 = sym (named packed) ∙ z in
+      let a : c .answer ≡ runAnswer (unpackOf packed .device) (length array) samples (length output) = m .answer in
+      record { answer = rw (y, ← a) e; bytes = rw (y, ← a) p; memory = rw y (m .memory); shown = rw y (m .shown) }
+
+-- the record of a run with answer 0
+pub next-is : {d : Device} {array samples output array′ output′ : List ℕ} {c : Checked} → Ran d array samples output c array′ output′ → c .answer ≡ 0 → c .device ≡ chipAfter d array samples .device
+next-is {d} {array} {samples} {output} m z =
+    let y : runAnswer d (length array) samples (length output) ≡ 0 = sym (m .answer) ∙ z in
+    m .device ∙ rw y
+
+-- the promise admits one outcome only
+pub one-outcome : {packed array samples output : List ℕ} {r s : ℕ} {packed′ packed″ array′ array″ output′ output″ : List ℕ} → RanC packed array samples output r packed′ array′ output′ → RanC packed array samples output s packed″ array″ output″
+    → (r ≡ s) × (packed′ ≡ packed″) × (array′ ≡ array″) × (output′ ≡ output″)
+one-outcome p q = (p .answer ∙ sym (q .answer), p .bytes ∙ sym (q .bytes), p .memory ∙ sym (q .memory), p .shown ∙ sym (q .shown))

@@ -1,0 +1,104 @@
+-- `m25p::m25p_pins` meets its contract.
+use mathlib.Core.Path.{_≡_, sym, ap, _∙_}
+use Prim.Native.Nat.{ℕ}
+use Rattle.device.specs.declared.Checked.{Checked}
+use Rattle.device.specs.Packing.{unpackOf}
+use Rattle.device.proofs.Inverse.{opened}
+use Rattle.chip.specs.Outcome.{bare}
+use Rattle.pins.specs.Run.{Ran}
+use Rattle.pins.proofs.Theorems.{run-sound}
+use Rattle.m25p.specs.Calls.{packedAnswer}
+use Rattle.m25p.proofs.Laws.{unpacked-sound, packs, written, kept}
+use Rattle.m25p.proofs.Pins.{refused, ran, next-is}
+use borrow.Author.Needs.{needs}
+use Rattle.m25p.proofs.m25p_pins.Statement.{statement}
+use Rattle.m25p.proofs.m25p_pins.Tie as tie
+
+unpack-requires : tie.Need-unpack-requires
+unpack-requires c κs = search needs
+
+bare-requires : tie.Need-bare-requires
+bare-requires c κs = search needs
+
+same-length : tie.Need-same-length
+same-length c = search needs
+
+returns : tie.Need-returns
+returns c =
+    let a = c .before .before .before .before .before .before .before .before .before .args in
+    let e = ap (λ (x : Checked). x .answer) (c .before .before .before .unpack .ensures) in
+    refused (a .packed .now) (a .array .now) (a .samples .now) (a .output .now) (λ z. c .before .if1 .taken (e ∙ z)) (c .bare .ensures ∙ ap (λ (k : ℕ). packedAnswer (bare k)) e)
+
+run-requires : tie.Need-run-requires
+run-requires c κs = search needs
+
+pack-requires : tie.Need-pack-requires
+pack-requires c κs = search needs
+
+bare-requires-2 : tie.Need-bare-requires-2
+bare-requires-2 c κs = search needs
+
+same-length-2 : tie.Need-same-length-2
+same-length-2 c = search needs
+
+same-length-3 : tie.Need-same-length-3
+same-length-3 c = search needs
+
+same-length-4 : tie.Need-same-length-4
+same-length-4 c = search needs
+
+returns-2 : tie.Need-returns-2
+returns-2 c =
+    let t = c .before .before .before .before .before .before .before .before .before .before .before in
+    let u = c .before .before .before .before .before .before .before .before .before .before .before .before .before .before .before .before .unpack in
+    let a = c .before .before .before .before .before .before .before .before .before .before .before .before .before .before .before .before .before .before .before .before .before .before .args in
+    let e = ap (λ (x : Checked). x .answer) (u .ensures) in
+    let z : unpackOf (a .packed .now) .answer ≡ 0 = sym e ∙ c .before .before .before .before .before .before .before .before .before .before .before .before .before .before .if1 .left in
+    let m : Ran (unpackOf (a .packed .now) .device) (a .array .now) (a .samples .now) (a .output .now) (t .run .result) (t .run .last .1 .0) (t .run .last .1 .1 .1 .0) = rw (← u .ensures) (t .run .ensures) in
+    let y = c .before .before .before .before .before .if2 .taken in
+    let s = run-sound m (unpacked-sound (a .packed .now) z) in
+    ran (a .packed .now) (a .array .now) (a .samples .now) (a .output .now) z m (c .bare2 .ensures ∙ ap (λ (k : ℕ). packedAnswer (bare k)) (sym y))
+    (written _ (a .packed .now) y (next-is m y) (packs (c .before .before .before .pack .ensures) (opened (a .packed .now) z .long) s))
+
+bare-requires-3 : tie.Need-bare-requires-3
+bare-requires-3 c κs = search needs
+
+same-length-5 : tie.Need-same-length-5
+same-length-5 c = search needs
+
+same-length-6 : tie.Need-same-length-6
+same-length-6 c = search needs
+
+same-length-7 : tie.Need-same-length-7
+same-length-7 c = search needs
+
+returns-3 : tie.Need-returns-3
+returns-3 c =
+    let t = c .before .before .before .before .before .before .before in
+    let u = c .before .before .before .before .before .before .before .before .before .before .before .before .unpack in
+    let a = c .before .before .before .before .before .before .before .before .before .before .before .before .before .before .before .before .before .before .args in
+    let e = ap (λ (x : Checked). x .answer) (u .ensures) in
+    let z : unpackOf (a .packed .now) .answer ≡ 0 = sym e ∙ c .before .before .before .before .before .before .before .before .before .before .if1 .left in
+    let m : Ran (unpackOf (a .packed .now) .device) (a .array .now) (a .samples .now) (a .output .now) (t .run .result) (t .run .last .1 .0) (t .run .last .1 .1 .1 .0) = rw (← u .ensures) (t .run .ensures) in
+    ran (a .packed .now) (a .array .now) (a .samples .now) (a .output .now) z m (c .bare3 .ensures) (kept _ _ _ (c .before .if2 .left))
+
+pub m25p-pins-spec : {M : Type 1} → statement M
+m25p-pins-spec =
+    tie.close
+    (tie.spec
+    unpack-requires
+    bare-requires
+    same-length
+    returns
+    run-requires
+    pack-requires
+    bare-requires-2
+    same-length-2
+    same-length-3
+    same-length-4
+    returns-2
+    bare-requires-3
+    same-length-5
+    same-length-6
+    same-length-7
+    returns-3)

@@ -1,0 +1,7 @@
+-- The laws of raw pins.
+pub mod Seen
+pub mod Carried
+pub mod Held
+pub mod Runs
+pub mod Theorems
+pub mod Output

@@ -1,0 +1,215 @@
+-- What holds of every run: its transactions, its output, and that no output byte depends on a later sample.
+-- Assumes nothing.
+use mathlib.Core.Path.{_≡_, refl, sym, ap, _∙_}
+use mathlib.Core.Bool.{Bool, true, false, cond, not, _&&_, _||_, false≢true}
+use mathlib.Core.List.{List, [], _∷_, _++_}
+use Prim.Native.Nat.{ℕ, zero, suc, _+_, _*_, _/_, _%_, _^_, _-_, _≤_, _<_}
+use native.Mathlib.Nat.{le-refl, mod-lt}
+use native.Mathlib.Omega.{arith}
+use borrow.Author.Tests.{ltb-false, le-ltb, eq-eqb}
+use lib.Dec.{eqb, ltb, lit≤, lit<}
+use lib.ListN.{length, getD, take, replicate, length-replicate}
+use lib.Seq.{take-length, take-take, length-take-le, take-at}
+use Rattle.slices.specs.Changed.{mapAt, window}
+use Rattle.slices.proofs.Choices.{cond-ind, cond-case}
+use Rattle.slices.proofs.Maps.{getD-map, length-map}
+use Rattle.slices.proofs.Windows.{window-in, window-above}
+use Rattle.parts.specs.Parts.{figuresOf}
+use Rattle.device.specs.declared.Device.{Device}
+use Rattle.device.specs.declared.Checked.{Checked}
+use Rattle.device.specs.Device.{sound, onZero}
+use Rattle.chip.specs.Answers.{refusal}
+use Rattle.chip.specs.Line.{Driven, silent, drives, driven}
+use Rattle.chip.specs.Outcome.{transacted}
+use Rattle.chip.proofs.Rules as rules
+use Rattle.chip.proofs.Lines.{LineIs, line-is-driven}
+use Rattle.pins.specs.declared.levels.Levels.{Levels}
+use Rattle.pins.specs.declared.levels.Pins.{Pins}
+use Rattle.pins.specs.Pins.{levelsOf, onSelect, onClock, onHold, nextPins, changes, ends, takes, moves, Shown, nothing, after, Transaction, Taking, anew, bitTaken, movedOn, clocked, nextTaking, nextFound, Seen, atRest, step, seenFrom, seen, tooLong}
+use Rattle.pins.specs.Run.{Chip, carriedOut, carriedAll, chipAfter, bitIn, bitShown, outputOf, outputAfter, outputAt, runAnswer, Ran}
+use Rattle.pins.proofs.Seen.{seen-ind, from-append, few-next, neither, unchanged, few-pulses, moves-takes}
+use Rattle.pins.proofs.Carried.{ending, no-end}
+use Rattle.pins.proofs.Runs.{Accepted, accepted}
+
+-- ---- a run that is not refused
+
+module _ {d : Device} {array samples output : List ℕ} {r : Checked} {array′ output′ : List ℕ} (ran : Ran d array samples output r array′ output′) (fine : r .answer ≡ 0) where
+  answers : runAnswer d (length array) samples (length output) ≡ 0
+  answers = sym (ran .answer) ∙ fine
+
+  -- its record and array are those of the found transactions given singly, in order
+  pub run-carries : (r .device ≡ carriedAll (record { device = d; array = array }) (seen samples .found) .device) × (array′ ≡ carriedAll (record { device = d; array = array }) (seen samples .found) .array)
+  unfolding chipAfter
+  run-carries = (ran .device ∙ rw answers, ran .memory ∙ rw answers)
+
+  -- output byte i is the output after the first i + 1 samples
+  pub run-shows : (i : ℕ) → i < length samples → getD output′ i 0 ≡ outputAfter d array (take (i + 1) samples)
+  unfolding outputAt
+  run-shows i lt =
+      let a = accepted d (length array) samples (length output) answers in
+      let e : output′ ≡ mapAt (window 0 (length samples) (outputAt d array samples)) output = ran .shown ∙ rw answers in
+      ap (λ (xs : List ℕ). getD xs i 0) e ∙ getD-map (window 0 (length samples) (outputAt d array samples)) output i 0 (omega (arith, a .room))
+      ∙ window-in 0 (length samples) (outputAt d array samples) i (getD output i 0) (omega arith) lt
+
+  -- output bytes beyond the samples are untouched
+  pub run-leaves : (i : ℕ) → length samples ≤ i → i < length output → getD output′ i 0 ≡ getD output i 0
+  run-leaves i le lt =
+      let e : output′ ≡ mapAt (window 0 (length samples) (outputAt d array samples)) output = ran .shown ∙ rw answers in
+      ap (λ (xs : List ℕ). getD xs i 0) e ∙ getD-map (window 0 (length samples) (outputAt d array samples)) output i 0 lt
+      ∙ window-above 0 (length samples) (outputAt d array samples) i (getD output i 0) le
+
+-- no output byte depends on a later sample: two runs that are not refused and agree on record, array and the first k samples agree on the first k output bytes
+pub no-later : {d : Device} {array : List ℕ} {samples other output output₂ : List ℕ} {r s : Checked} {array′ array″ output′ output″ : List ℕ} (k : ℕ)
+    → Ran d array samples output r array′ output′ → r .answer ≡ 0 → Ran d array other output₂ s array″ output″ → s .answer ≡ 0
+    → k ≤ length samples → k ≤ length other → take k samples ≡ take k other → (i : ℕ) → i < k → getD output′ i 0 ≡ getD output″ i 0
+no-later {d} {array} {samples} {other} k p z q y l m e i lt =
+    run-shows p z i (omega arith)
+    ∙ (ap (outputAfter d array) (sym (take-take (i + 1) k samples (omega arith)) ∙ (ap (take (i + 1)) e ∙ take-take (i + 1) k other (omega arith)))
+    ∙ sym (run-shows q y i (omega arith)))
+
+-- ---- the record stays sound, the array keeps its length
+
+zero-ind : {A : Type 0} (P : A → Type 0) (k : ℕ) {x y : A} → P x → P y → P (onZero k x y)
+zero-ind P zero p q = p
+zero-ind P (suc k) p q = q
+
+-- a sound record, with the array of its part
+pub record Whole (c : Chip) : Type 0 where
+  pub sound : sound (c .device) ≡ true
+  pub length : length (c .array) ≡ figuresOf (c .device .part) .bytes
+
+one-sound : (c : Chip) (t : Transaction) → sound (c .device) ≡ true → sound (carriedOut c t .device) ≡ true
+unfolding carriedOut
+one-sound c t s = rules.stays-sound (c .device) (c .array) (t .sent) (t .pulses) (t .w) (replicate (length (t .sent)) 0) s
+
+one-length : (c : Chip) (t : Transaction) → length (carriedOut c t .array) ≡ length (c .array)
+unfolding carriedOut
+one-length c t = rules.array-length (c .device) (c .array) (t .sent) (t .pulses) (t .w) (replicate (length (t .sent)) 0)
+
+one-part : (c : Chip) (t : Transaction) → carriedOut c t .device .part ≡ c .device .part
+unfolding carriedOut
+one-part c t = rules.make-stays (c .device) (c .array) (t .sent) (t .pulses) (t .w) (replicate (length (t .sent)) 0) .part
+
+all-sound : (c : Chip) (ts : List Transaction) → sound (c .device) ≡ true → sound (carriedAll c ts .device) ≡ true
+all-sound c [] s = s
+all-sound c (t ∷ ts) s = all-sound (carriedOut c t) ts (one-sound c t s)
+
+all-length : (c : Chip) (ts : List Transaction) → length (carriedAll c ts .array) ≡ length (c .array)
+all-length c [] = refl
+all-length c (t ∷ ts) = all-length (carriedOut c t) ts ∙ one-length c t
+
+module _ {d : Device} {array samples output : List ℕ} {r : Checked} {array′ output′ : List ℕ} (ran : Ran d array samples output r array′ output′) where
+  -- a sound record stays sound, refused or not
+  pub run-sound : sound d ≡ true → sound (r .device) ≡ true
+  unfolding chipAfter
+  run-sound s =
+      rw (ran .device)
+      (zero-ind (λ (x : Device). sound x ≡ true) (runAnswer d (length array) samples (length output)) (all-sound (record { device = d; array = array }) (seen samples .found) s) s)
+
+  -- array and output keep their lengths
+  pub run-lengths : (length array′ ≡ length array) × (length output′ ≡ length output)
+  unfolding chipAfter
+  run-lengths = (
+    rw (ran .memory) (zero-ind (λ (x : List ℕ). length x ≡ length array) (runAnswer d (length array) samples (length output)) (all-length (record { device = d; array = array }) (seen samples .found)) refl),
+    rw (ran .shown) (zero-ind (λ (x : List ℕ). length x ≡ length output) (runAnswer d (length array) samples (length output)) (length-map _ output) refl),
+  )
+
+-- ---- the transactions found are never refused, and each line is what the chip drives
+
+-- a transaction that a chip takes: no number of the host side answers it, and byte i of its line is what is driven after its first i bytes
+pub record TakenBy (c : Chip) (t : Transaction) : Type 0 where
+  pub fine : refusal (c .device) (length (c .array)) (length (t .sent)) (t .pulses) (length (t .sent)) ≡ 0
+  pub line : (i : ℕ) → i < length (t .sent) → LineIs (c .device) (c .array) (t .sent) (transacted (c .device) (c .array) (t .sent) (t .pulses) (t .w) (replicate (length (t .sent)) 0)) i
+
+-- so of each, in order
+abbrev pub AllTaken : Chip → List Transaction → Type 0
+AllTaken c [] = Unit
+AllTaken c (t ∷ ts) = TakenBy c t × AllTaken (carriedOut c t) ts
+
+-- 65,536 bytes or fewer, 7 further pulses or fewer
+abbrev Fits : Transaction → Type 0
+Fits t = (length (t .sent) ≤ 65536) × (t .pulses < 8)
+
+abbrev AllFit : List Transaction → Type 0
+AllFit [] = Unit
+AllFit (t ∷ ts) = Fits t × AllFit ts
+
+fit-more : (ts : List Transaction) (t : Transaction) → AllFit ts → Fits t → AllFit (ts ++ (t ∷ []))
+fit-more [] t h f = (f, tt)
+fit-more (x ∷ ts) t h f = (h .0, fit-more ts t (h .1) f)
+
+found-fit : (samples : List ℕ) → tooLong samples ≡ false → AllFit (seen samples .found)
+unfolding tooLong atRest step nextFound anew
+found-fit samples h =
+    seen-ind (λ (x : Seen). (x .taking .pulses < 8) × (x .long ≡ false → (length (x .taking .sent) ≤ 65536) × AllFit (x .found))) (lit< tt, λ e. (lit≤ tt, tt))
+    (λ x now p. (
+      few-next (x .pins) now (x .taking) (p .0),
+      λ e.
+          let n = neither (x .long) (ltb 65536 (length (nextTaking (x .pins) now (x .taking) .sent))) e in
+          let q = p .1 (n .0) in
+          (ltb-false 65536 (length (nextTaking (x .pins) now (x .taking) .sent)) (n .1), cond-ind AllFit (ends (x .pins) now) (fit-more (x .found) (ending (x .taking) now) (q .1) (q .0, p .0)) (q .1)),
+    )) samples .1 h .1
+
+fine-one : (c : Chip) (t : Transaction) → Whole c → Fits t → refusal (c .device) (length (c .array)) (length (t .sent)) (t .pulses) (length (t .sent)) ≡ 0
+unfolding refusal
+fine-one c t w f =
+    let k : t .pulses ≤ 7 = omega (arith, f .1) in
+    rw (w .sound, eq-eqb (length (c .array)) (figuresOf (c .device .part) .bytes) (w .length), le-ltb 65536 (length (t .sent)) (f .0), le-ltb 7 (t .pulses) k, le-ltb (length (t .sent)) (length (t .sent)) (le-refl _))
+
+taken-one : (c : Chip) (t : Transaction) → Whole c → Fits t → TakenBy c t
+taken-one c t w f =
+    let zeros : List ℕ = replicate (length (t .sent)) 0 in
+    let l : length zeros ≡ length (t .sent) = length-replicate {A = ℕ} (length (t .sent)) 0 in
+    let e = fine-one c t w f in
+    record { fine = e; line = λ i lt. line-is-driven (c .device) (c .array) (t .sent) i lt (t .pulses) (t .w) zeros (rw l e) }
+
+all-taken : (c : Chip) (ts : List Transaction) → Whole c → AllFit ts → AllTaken c ts
+all-taken c [] w f = tt
+all-taken c (t ∷ ts) w f = (
+  taken-one c t w (f .0),
+  all-taken (carriedOut c t) ts (record { sound = one-sound c t (w .sound); length = one-length c t ∙ (w .length ∙ ap (λ (p : ℕ). figuresOf p .bytes) (sym (one-part c t))) }) (f .1),
+)
+
+pub run-taken : {d : Device} {array samples output : List ℕ} {r : Checked} {array′ output′ : List ℕ} → Ran d array samples output r array′ output′ → r .answer ≡ 0
+    → AllTaken (record { device = d; array = array }) (seen samples .found)
+run-taken {d} {array} {samples} {output} ran fine =
+    let a = accepted d (length array) samples (length output) (sym (ran .answer) ∙ fine) in
+    all-taken (record { device = d; array = array }) (seen samples .found) (record { sound = a .sound; length = a .whole }) (found-fit samples (a .short))
+
+-- ---- thrown away and unfinished
+
+-- in these samples Select does not rise outside a hold
+abbrev pub Endless : Seen → List ℕ → Type 0
+Endless x [] = Unit
+Endless x (s ∷ samples) = (ends (x .pins) (levelsOf s) ≡ false) × Endless (step x (levelsOf s)) samples
+
+endless-found : (x : Seen) (samples : List ℕ) → Endless x samples → seenFrom x samples .found ≡ x .found
+unfolding step nextFound
+endless-found x [] e = refl
+endless-found x (s ∷ samples) e = endless-found (step x (levelsOf s)) samples (e .1) ∙ rw (e .0)
+
+-- they have no effect on record and array, whatever they shift in: a transaction that is unfinished, or thrown away, has none
+pub no-effect : (d : Device) (array samples more : List ℕ) → Endless (seen samples) more → chipAfter d array (samples ++ more) ≡ chipAfter d array samples
+unfolding chipAfter seen
+no-effect d array samples more e =
+    ap (λ (x : Seen). carriedAll (record { device = d; array = array }) (x .found)) (from-append atRest samples more)
+    ∙ ap (λ (ts : List Transaction). carriedAll (record { device = d; array = array }) ts) (endless-found (seenFrom atRest samples) more e)
+
+held-ends : (a b : Bool) → a && b && false ≡ false
+held-ends true true = refl
+held-ends true false = refl
+held-ends false b = refl
+
+-- rising during a hold throws the transaction away
+pub thrown-away : (p : Pins) (now : Levels) → p .holding ≡ true → ends p now ≡ false
+unfolding ends
+thrown-away p now h = rw h (held-ends (not (p .select)) (now .select))
+
+-- with Select high nothing ends before it has fallen
+pub unfinished : (p : Pins) (now : Levels) → now .select ≡ false → ends p now ≡ false
+unfolding ends
+unfinished p now h = rw h (still (not (p .select)) (not (p .holding)))
+  where
+    still : (a b : Bool) → a && false && b ≡ false
+    still true b = refl
+    still false b = refl

@@ -1,0 +1,54 @@
+-- `pins::carry_out` meets its contract.
+use mathlib.Core.Path.{_≡_, refl, sym, _∙_}
+use mathlib.Core.Bool.{true, false}
+use lib.Seq.{length-take-le}
+use Rattle.pins.specs.Counted.{endedWith}
+use Rattle.pins.specs.Pins.{ends}
+use borrow.Author.Needs.{needs}
+use Rattle.pins.proofs.carry_out.Statement.{statement}
+use Rattle.pins.proofs.carry_out.Tie as tie
+
+ends-requires : tie.Need-ends-requires
+ends-requires c κs = search needs
+
+slice-aggregate-transact : tie.Need-slice-aggregate-transact
+slice-aggregate-transact c =
+    let b = c .before .before .before .before .before .before .before in
+    sym (length-take-le _ _ (b .pre))
+
+transact-requires : tie.Need-transact-requires
+transact-requires c κs = search needs
+
+same-length : tie.Need-same-length
+same-length c = search needs
+
+same-length-2 : tie.Need-same-length-2
+same-length-2 c = search needs
+
+returns : tie.Need-returns
+unfolding endedWith
+returns c =
+    let b = c .before .before .before .before .before .before .before .before .before in
+    let a = b .before .before .before .before .before .args in
+    let t : ends (a .pins) (a .levels) ≡ true = sym (b .before .ends .ensures) ∙ b .if1 .taken in
+    let m = c .before .before .before .before .before .transact .ensures in
+    rw t (record { device = m .device; memory = m .memory })
+
+returns-2 : tie.Need-returns-2
+unfolding endedWith
+returns-2 c =
+    let a = c .before .before .before .before .before .args in
+    let t : ends (a .pins) (a .levels) ≡ false = sym (c .before .ends .ensures) ∙ c .if1 .left in
+    rw t (record { device = refl; memory = refl })
+
+pub carry-out-spec : {M : Type 1} → statement M
+carry-out-spec =
+    tie.close
+    (tie.spec
+    ends-requires
+    slice-aggregate-transact
+    transact-requires
+    same-length
+    same-length-2
+    returns
+    returns-2)

@@ -1,0 +1,4 @@
+-- Raw pins: the pins as a machine, the transactions found, and the run.
+pub mod Pins
+pub mod Run
+pub mod Counted

@@ -1,0 +1,157 @@
+//! The chip behind the plain pins: takes bits, shows bits, and carries transactions out.
+
+use super::Listener;
+use crate::model::*;
+use crate::pins_model::{MOST_BYTES, NOT_DRIVEN};
+
+pub struct Chip<'a> {
+    pub record: Record,
+    /// The output, were it open.
+    pub shown: u8,
+    array: &'a mut [u8],
+    sent: Vec<u8>,
+    /// The bits of the unfinished byte, and how many they are.
+    byte: u8,
+    bits: u32,
+    /// What is driven during the unfinished byte.
+    driven: Option<u8>,
+    /// The address, from its last byte on, and the next byte of the array to read.
+    address: usize,
+    next: usize,
+}
+
+impl Chip<'_> {
+    pub fn new(record: Record, array: &mut [u8]) -> Chip<'_> {
+        let sent = Vec::with_capacity(MOST_BYTES);
+        let (shown, byte, bits, driven, address, next) = (NOT_DRIVEN, 0, 0, None, 0, 0);
+        Chip { record, shown, array, sent, byte, bits, driven, address, next }
+    }
+
+    /// What is driven after the whole bytes taken so far.
+    fn drive(&mut self) -> Option<u8> {
+        let n = self.sent.len();
+        let code = self.sent[0];
+        if n == 4 {
+            let [_, high, middle, low] = self.sent[..] else { unreachable!() };
+            let address = (high as usize) << 16 | (middle as usize) << 8 | low as usize;
+            self.address = address % self.array.len();
+            self.next = self.address;
+        }
+        let taken = match self.record.mode {
+            Mode::Standby => true,
+            Mode::Busy(_) => code == RDSR,
+            Mode::Deep => code == RES,
+        };
+        let part = self.record.figures();
+        match code {
+            _ if !taken => None,
+            RDSR => Some(self.record.status()),
+            READ if n >= 4 => Some(self.read()),
+            FAST_READ if n >= 5 => Some(self.read()),
+            RDID => Some(part.identification.get(n - 1).copied().unwrap_or(0)),
+            RES if n >= 4 => part.signature,
+            _ => None,
+        }
+    }
+
+    fn read(&mut self) -> u8 {
+        let byte = self.array[self.next];
+        self.next += 1;
+        if self.next == self.array.len() {
+            self.next = 0;
+        }
+        byte
+    }
+
+    fn open_sector(&self) -> bool {
+        let part = self.record.figures();
+        let open = part.sectors - part.protected[self.record.bp as usize];
+        self.address / part.sector_bytes < open
+    }
+
+    fn program(&mut self) {
+        let page = self.address / 256 * 256;
+        let from = self.sent.len().saturating_sub(256).max(4);
+        for (k, byte) in self.sent.iter().enumerate().skip(from) {
+            self.array[page + (self.address + k - 4) % 256] &= byte;
+        }
+    }
+
+    fn erase_sector(&mut self) {
+        let bytes = self.record.figures().sector_bytes;
+        let start = self.address / bytes * bytes;
+        self.array[start..start + bytes].fill(0xFF);
+    }
+
+    fn write_status(&mut self) {
+        self.record.srwd = self.sent[1] & 0x80 != 0;
+        self.record.bp = self.sent[1] >> 2 & self.record.figures().highest_bp;
+    }
+
+    /// What a finished transaction changes.
+    fn change(&mut self, w: bool) {
+        let r = self.record;
+        let [code, ..] = self.sent[..] else { return };
+        let sleeps = r.figures().signature.is_some();
+        match r.mode {
+            Mode::Standby => {}
+            Mode::Deep if code == RES => {}
+            _ => return,
+        }
+        match (code, self.sent.len(), self.bits) {
+            (WREN, 1, 0) => self.record.latch = true,
+            (WRDI, 1, 0) => self.record.latch = false,
+            (DP, 1, 0) if sleeps => self.record.mode = Mode::Deep,
+            (RES, _, _) if sleeps => self.record.mode = Mode::Standby,
+            (WRSR, 2, 0) if r.latch && (w || !r.srwd) => {
+                self.write_status();
+                self.record.mode = Mode::Busy(r.write_status);
+            }
+            (PP, 5.., 0) if r.latch && self.open_sector() => {
+                self.program();
+                self.record.mode = Mode::Busy(r.program);
+            }
+            (SE, 4, 0) if r.latch && self.open_sector() => {
+                self.erase_sector();
+                self.record.mode = Mode::Busy(r.sector_erase);
+            }
+            (BE, 1, 0) if r.latch && r.bp == 0 => {
+                self.array.fill(0xFF);
+                self.record.mode = Mode::Busy(r.bulk_erase);
+            }
+            _ => {}
+        }
+    }
+}
+
+impl Listener for Chip<'_> {
+    fn begin(&mut self) {
+        self.sent.clear();
+        (self.byte, self.bits) = (0, 0);
+        self.driven = None;
+        self.shown = NOT_DRIVEN;
+    }
+
+    #[inline(always)]
+    fn take(&mut self, bit: u8) {
+        self.byte = self.byte << 1 | bit;
+        self.bits += 1;
+        if self.bits == 8 {
+            self.sent.push(self.byte);
+            self.bits = 0;
+            self.driven = self.drive();
+        }
+    }
+
+    #[inline(always)]
+    fn move_on(&mut self) {
+        self.shown = match self.driven {
+            Some(byte) => byte >> (7 - self.bits) & 1,
+            None => NOT_DRIVEN,
+        };
+    }
+
+    fn end(&mut self, w: bool) {
+        self.change(w);
+    }
+}
