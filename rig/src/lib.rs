@@ -2,6 +2,7 @@
 //!
 //! `cargo test --release` compares; RIG_CALLS and RIG_SEED make the run longer or another one.
 //! `cargo run --release --bin timing` measures, and `cargo run --release --bin pins` runs a probe's file.
+//! `cargo run --release --bin serprog` serves a chip to flashrom.
 
 pub mod bench_model;
 pub mod calls;
@@ -15,6 +16,7 @@ pub mod pins_model;
 pub mod plain_pins;
 pub mod probe;
 pub mod rng;
+pub mod serprog;
 pub mod vcd;
 
 /// Writes a line past the tests' capture, so that it is always seen.
