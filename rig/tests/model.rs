@@ -11,17 +11,7 @@ struct Case {
 }
 
 fn worked() -> Record {
-    Record {
-        part: 0,
-        bp: 0,
-        srwd: false,
-        latch: true,
-        mode: Mode::Standby,
-        program: 3,
-        sector_erase: 5,
-        bulk_erase: 9,
-        write_status: 2,
-    }
+    Record { latch: true, ..Record::standby(0) }
 }
 
 fn case(record: Record) -> Case {

@@ -16,17 +16,7 @@ struct Case {
 }
 
 fn worked() -> Record {
-    Record {
-        part: 0,
-        bp: 1,
-        srwd: true,
-        latch: false,
-        mode: Mode::Standby,
-        program: 3,
-        sector_erase: 5,
-        bulk_erase: 9,
-        write_status: 2,
-    }
+    Record { bp: 1, srwd: true, ..Record::standby(0) }
 }
 
 fn case(record: Record) -> Case {

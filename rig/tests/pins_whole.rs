@@ -3,7 +3,7 @@
 use std::io::Write;
 
 use rig::compare::SPARE;
-use rig::model::{Mode, Record, PARTS, RDSR, READ, WREN};
+use rig::model::{Record, PARTS, RDSR, READ, WREN};
 use rig::pins_compare::{PinsPair, PinsTally};
 use rig::pins_generate::Run;
 use rig::pins_model::{PinFault, CLOCK, DATA, HOLD, MOST_BYTES, SELECT, W};
@@ -12,17 +12,7 @@ use rig::rng::Rng;
 
 /// A bench part in standby with status byte 84 and the latch reset.
 fn standby() -> Record {
-    Record {
-        part: 0,
-        bp: 1,
-        srwd: true,
-        latch: false,
-        mode: Mode::Standby,
-        program: 3,
-        sector_erase: 5,
-        bulk_erase: 9,
-        write_status: 2,
-    }
+    Record { bp: 1, srwd: true, ..Record::standby(0) }
 }
 
 /// A run of the samples from the standby record, with an output just long enough.

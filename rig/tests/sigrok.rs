@@ -132,17 +132,7 @@ fn compare(name: &str, start: &Chip, all: &[Sent], mode: SpiMode, half: usize) {
 
 /// Records in which the chip takes everything, only a status read, or only a release.
 fn records(part: u8) -> Vec<Record> {
-    let standby = Record {
-        part,
-        bp: 1,
-        srwd: true,
-        latch: false,
-        mode: Mode::Standby,
-        program: 3,
-        sector_erase: 5,
-        bulk_erase: 9,
-        write_status: 2,
-    };
+    let standby = Record { bp: 1, srwd: true, ..Record::standby(part) };
     let busy = Record { latch: true, mode: Mode::Busy(7), ..standby };
     let deep = Record { mode: Mode::Deep, ..standby };
     if part == 4 {

@@ -6,17 +6,7 @@ use rig::rng::Rng;
 
 /// Records of the part that differ in what the chip looks at.
 fn states(part: u8) -> Vec<Record> {
-    let standby = Record {
-        part,
-        bp: 0,
-        srwd: false,
-        latch: true,
-        mode: Mode::Standby,
-        program: 3,
-        sector_erase: 5,
-        bulk_erase: 9,
-        write_status: 2,
-    };
+    let standby = Record { latch: true, ..Record::standby(part) };
     let highest = PARTS[part as usize].highest_bp;
     let mut states = vec![
         standby,

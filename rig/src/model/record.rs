@@ -41,6 +41,21 @@ fn flag(byte: u8) -> Option<bool> {
 }
 
 impl Record {
+    /// A part in standby: BP 0, SRWD 0, latch reset, the durations of the paper's worked examples.
+    pub fn standby(part: u8) -> Record {
+        Record {
+            part,
+            bp: 0,
+            srwd: false,
+            latch: false,
+            mode: Mode::Standby,
+            program: 3,
+            sector_erase: 5,
+            bulk_erase: 9,
+            write_status: 2,
+        }
+    }
+
     /// The figures of this record's part.
     pub fn figures(&self) -> &'static Part {
         &PARTS[self.part as usize]
