@@ -13,19 +13,21 @@ use lib.ListN.{length, getD, take, drop, length-drop, drop-of-length-le}
 use lib.Seq.{take-all}
 use Rattle.slices.specs.Changed.{mapAt, window, put, sumFrom, sumAt}
 use Rattle.slices.proofs.Maps.{map-agree}
+use Rattle.slices.proofs.Choices.{other}
 use Rattle.slices.proofs.Windows.{window-more, window-rest, window-ext}
 use Rattle.parts.specs.declared.Figures.{Figures}
 use Rattle.parts.specs.Parts.{figuresOf, knownPart}
 use Rattle.device.specs.declared.Device.{Device}
-use Rattle.device.specs.Device.{statusByte, zeroRecord, delivered}
+use Rattle.device.specs.Device.{statusByte, onZero, zeroRecord, delivered}
 use Rattle.device.specs.declared.Checked.{Checked}
 use Rattle.chip.specs.declared.table.Row.{Row}
+use Rattle.chip.specs.declared.table.Instruction.{Instruction}
 use Rattle.chip.specs.declared.answers.Verdict.{Verdict}
 use Rattle.chip.specs.declared.Answer.{Answer}
-use Rattle.chip.specs.Table.{addressOf}
-use Rattle.chip.specs.Answers.{verdictOf, deliveryAnswer}
+use Rattle.chip.specs.Table.{addressOf, instructionIn}
+use Rattle.chip.specs.Answers.{refusal, ignorance, decided, verdictOf, deliveryAnswer}
 use Rattle.chip.specs.Line.{Driven, silent, drives, onLine, kth, heardRow, driven, lined, driving, drivingAt, firstFrom, firstOf, countOf}
-use Rattle.chip.specs.Outcome.{Outcome, outcomeOf, transacted, Meets, Transacted, Delivered, recordBy, arrayBy}
+use Rattle.chip.specs.Outcome.{Outcome, outcomeOf, transacted, Meets, Transacted, Delivered}
 use Rattle.chip.proofs.Lines.{driven-from, driven-before}
 
 le-or-le : (m n : ℕ) (b : Bool) → leb m n ≡ b → (m ≤ n) ⊎ (n ≤ m)
@@ -95,6 +97,12 @@ count-le d array sent = sum-within 0 (λ i x. drivingAt d array sent i) sent (λ
 
 -- ---- the promise, by the verdict
 
+-- what the code judges of the instruction that it read is the verdict
+pub verdict-so : (d : Device) (array sent : List ℕ) (pulses : ℕ) (w : Bool) (response : List ℕ) (i : Instruction) {v : Verdict} → i ≡ instructionIn d sent
+    → v ≡ decided (refusal d (length array) (length sent) pulses (length response)) (ignorance d (i .row) (length sent) pulses w (i .address)) → verdictOf d (length array) sent pulses w (length response) ≡ v
+unfolding verdictOf
+verdict-so d array sent pulses w response i e h = sym (h ∙ rw e)
+
 pub by-verdict : (d : Device) (array sent : List ℕ) (pulses : ℕ) (w : Bool) (response : List ℕ) (v : Verdict) → verdictOf d (length array) sent pulses w (length response) ≡ v
     → {a : Answer} {next : Device} {array′ response′ : List ℕ} → Meets (outcomeOf v d array sent response) a next array′ response′
     → Transacted d array sent pulses w response a next array′ response′
@@ -126,15 +134,8 @@ large part array p s b t h = let k : 4 < part = omega arith in rw (lt-leb part 4
 -- refused: the number, the all-zero record, the array as it was
 pub refused-delivery : (part : ℕ) (array : List ℕ) (p s b t k : ℕ) {r : Checked} → k ≡ deliveryAnswer part (length array) p s b t → (k ≡ 0 → ⊥) → r .answer ≡ k → r .device ≡ zeroRecord
     → Delivered part array p s b t r array
-refused-delivery part array p s b t k e n a d = record { answer = a ∙ e; device = d ∙ by-record k n ∙ ap (λ (m : ℕ). recordBy m (delivered part p s b t)) e; memory = by-array k n ∙ ap (λ (m : ℕ). arrayBy m array) e }
-  where
-    by-record : (k : ℕ) → (k ≡ 0 → ⊥) → zeroRecord ≡ recordBy k (delivered part p s b t)
-    by-record zero n = absurd (n refl)
-    by-record (suc k) n = refl
-
-    by-array : (k : ℕ) → (k ≡ 0 → ⊥) → array ≡ arrayBy k array
-    by-array zero n = absurd (n refl)
-    by-array (suc k) n = refl
+refused-delivery part array p s b t k e n a d =
+    record { answer = a ∙ e; device = d ∙ (other k (delivered part p s b t) zeroRecord n ∙ ap (λ (m : ℕ). onZero m (delivered part p s b t) zeroRecord) e); memory = other k (mapAt (put 255) array) array n ∙ ap (λ (m : ℕ). onZero m (mapAt (put 255) array) array) e }
 
 -- executed: a part number of one byte, the record as delivered, the array all FF
 pub executed-delivery : (part : ℕ) (array array′ : List ℕ) (p s b t k : ℕ) {r : Checked} → k ≡ deliveryAnswer part (length array) p s b t → k ≡ 0 → r .answer ≡ 0 → r .device ≡ delivered part p s b t

@@ -1,4 +1,5 @@
 -- Laws of the rules and of the code.
+pub mod Rows
 pub mod Verdicts
 pub mod Lines
 pub mod Records

@@ -20,17 +20,17 @@ use Rattle.parts.specs.declared.Figures.{Figures}
 use Rattle.parts.specs.Parts.{figuresOf}
 use Rattle.device.specs.declared.Device.{Device}
 use Rattle.device.specs.Device.{statusByte}
-use Rattle.chip.specs.declared.table.Area.{Area}
-use Rattle.chip.specs.declared.table.Area.the-variants.{Nowhere}
+use Rattle.device.specs.declared.cycle.Kind.{Kind}
 use Rattle.chip.specs.declared.table.Turn.{Turn}
-use Rattle.chip.specs.declared.table.Turn.the-variants.{Keep, Enable, Disable, Settings, Sleep, Wake}
+use Rattle.chip.specs.declared.table.Turn.the-variants.{Keep, Wake}
 use Rattle.chip.specs.declared.table.Drive.{Drive}
 use Rattle.chip.specs.declared.table.Drive.the-variants.{Nothing, Identification, Status, Array, Signature}
 use Rattle.chip.specs.declared.table.Row.{Row}
 use Rattle.chip.specs.declared.line.Span.{Span}
 use Rattle.chip.specs.declared.answers.Verdict.{Verdict}
-use Rattle.chip.specs.Table.{longest, order, reading, write, unknown, rowOf, addressOf}
-use Rattle.chip.specs.Answers.{refusal, isBusy, isDeep, writesSettings, asNeeded, ignorance, rowIn}
+use Rattle.chip.specs.Table.{longest, order, reading, write, unknown, rowOf, addressOf, rowIn, onStart}
+use Rattle.chip.specs.Answers.{refusal, isBusy, isDeep, isSettings, guardedIn, asNeeded, ignorance}
+use Rattle.chip.proofs.Rows.{rows-ind}
 use Rattle.chip.specs.Line.{Driven, silent, drives, onLine, kth, byRow, heard, heardRow, driven, lined, driving, drivingAt, firstFrom, firstOf, countOf, noSpan, fromOn, spanOf}
 use Rattle.chip.specs.Outcome.{Outcome, outcomeOf, transacted}
 use Rattle.chip.proofs.Verdicts.{Host, Decision, refuses, ignores, executes, verdict-is, not-refused}
@@ -45,14 +45,13 @@ earliest Status = 1
 earliest Array = 4
 earliest Signature = 1
 
--- a row that drives needs no latch, no exact n and no still clock, leaves array and settings, and needs no byte beyond its first driven position
+-- a row that drives needs no latch, no exact n and no clock without further pulses, starts no cycle, and needs no byte beyond its first driven position
 pub record Reads (r : Row) : Type 0 where
   pub enough : r .least ≤ r .from
   pub unbounded : r .most ≡ longest
-  pub pulsed : r .still ≡ false
+  pub pulsed : r .«no_pulses» ≡ false
   pub unlatched : r .latch ≡ false
-  pub nowhere : r .area ≡ Nowhere
-  pub unsettling : writesSettings (r .turn) ≡ false
+  pub startless : (by : Kind → Bool) (other : Bool) → onStart (r .turn) by other ≡ other
 
 pub record RowLaws (r : Row) : Type 0 where
   pub coded : 1 ≤ r .from
@@ -63,9 +62,8 @@ pub record RowLaws (r : Row) : Type 0 where
 quiet-laws : (r : Row) → r .drive ≡ Nothing → 1 ≤ r .from → r .from ≤ 5 → RowLaws r
 quiet-laws r e h k = record { coded = h; soon = k; late = rw e h; reads = inl e }
 
-reading-laws : (n : ℕ) (dr : Drive) (k : ℕ) (b s : Bool) (t : Turn) → 1 ≤ k → k ≤ 5 → earliest dr ≤ k → n ≤ k → writesSettings t ≡ false → RowLaws (reading n dr k b s t)
-reading-laws n dr k b s t c m l e u =
-    record { coded = c; soon = m; late = l; reads = inr (record { enough = e; unbounded = refl; pulsed = refl; unlatched = refl; nowhere = refl; unsettling = u }) }
+reading-laws : (r : Row) → 1 ≤ r .from → r .from ≤ 5 → earliest (r .drive) ≤ r .from → Reads r → RowLaws r
+reading-laws r c m l e = record { coded = c; soon = m; late = l; reads = inr e }
 
 unknown-laws : RowLaws unknown
 unknown-laws = quiet-laws unknown refl (lit≤ tt) (lit≤ tt)
@@ -73,31 +71,26 @@ unknown-laws = quiet-laws unknown refl (lit≤ tt) (lit≤ tt)
 order-laws : (t : Turn) → RowLaws (order t)
 order-laws t = quiet-laws (order t) refl (lit≤ tt) (lit≤ tt)
 
-write-laws : (n m : ℕ) (a : Area) (t : Turn) → RowLaws (write n m a t)
-write-laws n m a t = quiet-laws (write n m a t) refl (lit≤ tt) (lit≤ tt)
+write-laws : (n m : ℕ) (k : Kind) → RowLaws (write n m k)
+write-laws n m k = quiet-laws (write n m k) refl (lit≤ tt) (lit≤ tt)
 
 pub row-laws : (f : Figures) (code : ℕ) → RowLaws (rowOf f code)
-unfolding rowOf
-row-laws f code =
-    cond-ind RowLaws (eqb code 0x06) (order-laws Enable)
-    (cond-ind RowLaws (eqb code 0x04) (order-laws Disable)
-    (cond-ind RowLaws (eqb code 0x9F) (reading-laws 1 Identification 1 false false Keep (lit≤ tt) (lit≤ tt) (lit≤ tt) (lit≤ tt) refl)
-    (cond-ind RowLaws (eqb code 0x05) (reading-laws 1 Status 1 true false Keep (lit≤ tt) (lit≤ tt) (lit≤ tt) (lit≤ tt) refl)
-    (cond-ind RowLaws (eqb code 0x01) (write-laws 2 2 Nowhere Settings)
-    (cond-ind RowLaws (eqb code 0x03) (reading-laws 4 Array 4 false false Keep (lit≤ tt) (lit≤ tt) (lit≤ tt) (lit≤ tt) refl)
-    (cond-ind RowLaws (eqb code 0x0B) (reading-laws 5 Array 5 false false Keep (lit≤ tt) (lit≤ tt) (lit≤ tt) (lit≤ tt) refl)
-    (cond-ind RowLaws (eqb code 0x02) (write-laws _ _ _ _)
-    (cond-ind RowLaws (eqb code 0xD8) (write-laws _ _ _ _)
-    (cond-ind RowLaws (eqb code 0xC7) (write-laws _ _ _ _)
-    (cond-ind RowLaws (eqb code 0xB9) (cond-ind RowLaws (f .sleeps) (order-laws Sleep) unknown-laws)
-    (cond-ind RowLaws (eqb code 0xAB) (cond-ind RowLaws (f .sleeps) (reading-laws 1 Signature 4 false true Wake (lit≤ tt) (lit≤ tt) (lit≤ tt) (lit≤ tt) refl) unknown-laws)
-    unknown-laws)))))))))))
+row-laws f =
+    rows-ind (λ code r. RowLaws r) f (order-laws _) (order-laws _)
+    (reading-laws _ (lit≤ tt) (lit≤ tt) (lit≤ tt) (record { enough = lit≤ tt; unbounded = refl; pulsed = refl; unlatched = refl; startless = λ by other. refl }))
+    (reading-laws _ (lit≤ tt) (lit≤ tt) (lit≤ tt) (record { enough = lit≤ tt; unbounded = refl; pulsed = refl; unlatched = refl; startless = λ by other. refl }))
+    (write-laws _ _ _)
+    (reading-laws _ (lit≤ tt) (lit≤ tt) (lit≤ tt) (record { enough = lit≤ tt; unbounded = refl; pulsed = refl; unlatched = refl; startless = λ by other. refl }))
+    (reading-laws _ (lit≤ tt) (lit≤ tt) (lit≤ tt) (record { enough = lit≤ tt; unbounded = refl; pulsed = refl; unlatched = refl; startless = λ by other. refl }))
+    (write-laws _ _ _) (write-laws _ _ _) (write-laws _ _ _) (λ e. order-laws _)
+    (λ e. reading-laws _ (lit≤ tt) (lit≤ tt) (lit≤ tt) (record { enough = lit≤ tt; unbounded = refl; pulsed = refl; unlatched = refl; startless = λ by other. refl }))
+    (λ code. unknown-laws)
 
--- a row that needs the latch, a still clock or an exact n drives nothing
-pub demanding : (f : Figures) (code : ℕ) → rowOf f code .latch || rowOf f code .still || ltb (rowOf f code .most) longest ≡ true → rowOf f code .drive ≡ Nothing
+-- a row that needs the latch, no further pulses or an exact n drives nothing
+pub demanding : (f : Figures) (code : ℕ) → rowOf f code .latch || rowOf f code .«no_pulses» || ltb (rowOf f code .most) longest ≡ true → rowOf f code .drive ≡ Nothing
 demanding f code h = go (rowOf f code) (row-laws f code .reads) h
   where
-    go : (r : Row) → (r .drive ≡ Nothing) ⊎ Reads r → r .latch || r .still || ltb (r .most) longest ≡ true → r .drive ≡ Nothing
+    go : (r : Row) → (r .drive ≡ Nothing) ⊎ Reads r → r .latch || r .«no_pulses» || ltb (r .most) longest ≡ true → r .drive ≡ Nothing
     go r (inl e) h = e
     go r (inr e) h = absurd (false≢true (sym (rw (e .unlatched, e .pulsed, e .unbounded)) ∙ h))
 
@@ -275,8 +268,8 @@ reading-taken d r n pulses w at h e lt le =
       le-leb n longest le,
       e .pulsed,
       e .unlatched,
-      e .nowhere,
-      e .unsettling,
+      e .startless (λ k. guardedIn k (figuresOf (d .part)) d at) false,
+      e .startless isSettings false,
     )
   where
     allowed : (a b : Bool) → not a || b ≡ true → a && not b ≡ false

@@ -9,47 +9,41 @@ use lib.Dec.{eqb, leb, ltb}
 use Rattle.parts.specs.declared.Figures.{Figures}
 use Rattle.parts.specs.Parts.{figuresOf}
 use Rattle.parts.proofs.Laws.{figures-ind}
-use Rattle.slices.proofs.Choices.{cond-ind, cond-case}
+use Rattle.slices.proofs.Choices.{cond-ind, zero-ind}
 use Rattle.device.specs.declared.Mode.{Mode}
 use Rattle.device.specs.declared.Mode.the-variants.{Standby, Busy, Deep}
 use Rattle.device.specs.declared.Device.{Device}
-use Rattle.device.specs.Device.{moded, settled, running, latchAt, sound, busyBit, waitedIn, waited, poweredUp, soundAnswer, onZero, waitCall, powerUpCall}
+use Rattle.device.specs.declared.cycle.Kind.{Kind}
+use Rattle.device.specs.declared.cycle.Kind.the-variants.{Settings, Page, Sector, All}
+use Rattle.device.specs.Cycles.{durationOf}
+use Rattle.device.specs.Device.{moded, settled, running, latchAt, rangedOf, sound, busyBit, waitedIn, waited, poweredUp, soundAnswer, onZero, waitCall, powerUpCall}
 use Rattle.device.specs.Device as record-is
 use Rattle.device.proofs.Sound.{sound-has, standby-sound, deep-sound, latched-sound, settled-sound, running-sound, waited-sound, powered-sound}
 use Rattle.chip.specs.declared.table.Turn.{Turn}
-use Rattle.chip.specs.declared.table.Turn.the-variants.{Keep, Enable, Disable, Settings, Program, EraseSector, EraseAll, Sleep, Wake}
-use Rattle.chip.specs.declared.table.Row.{Row}
+use Rattle.chip.specs.declared.table.Turn.the-variants.{Keep, Enable, Disable, Start, Sleep, Wake}
 use Rattle.chip.specs.Table.{rowOf}
 use Rattle.chip.specs.Answers.{isBusy}
-use Rattle.chip.specs.Change.{srwdIn, bpIn, turned}
+use Rattle.chip.specs.Change.{srwdIn, bpIn, settledBy, turned}
+use Rattle.chip.proofs.Rows.{rows-ind}
+
+-- only WRSR writes the settings
+abbrev KindLaw : Kind → ℕ → Type 0
+KindLaw Settings code = code ≡ 0x01
+KindLaw Page code = Unit {0}
+KindLaw Sector code = Unit {0}
+KindLaw All code = Unit {0}
 
 -- what a row's change of the record needs of the row: a latch is not changed while busy, only WRSR writes settings, only a part that sleeps goes to deep power-down
 abbrev pub TurnLaw : Turn → Figures → ℕ → Bool → Type 0
 TurnLaw Keep f code busy = Unit {0}
 TurnLaw Enable f code busy = busy ≡ false
 TurnLaw Disable f code busy = busy ≡ false
-TurnLaw Settings f code busy = code ≡ 1
-TurnLaw Program f code busy = Unit {0}
-TurnLaw EraseSector f code busy = Unit {0}
-TurnLaw EraseAll f code busy = Unit {0}
+TurnLaw (Start k) f code busy = KindLaw k code
 TurnLaw Sleep f code busy = f .sleeps ≡ true
 TurnLaw Wake f code busy = Unit {0}
 
 pub turn-law : (f : Figures) (code : ℕ) → TurnLaw (rowOf f code .turn) f code (rowOf f code .busy)
-unfolding rowOf
-turn-law f code =
-    let P : Row → Type 0 = λ r. TurnLaw (r .turn) f code (r .busy) in
-    cond-ind P (eqb code 0x06) refl
-    (cond-ind P (eqb code 0x04) refl
-    (cond-ind P (eqb code 0x9F) tt
-    (cond-ind P (eqb code 0x05) tt
-    (cond-case P (eqb code 0x01) (λ e. eqb-true code 0x01 e) (λ e.
-    cond-ind P (eqb code 0x03) tt
-    (cond-ind P (eqb code 0x0B) tt
-    (cond-ind P (eqb code 0x02) tt
-    (cond-ind P (eqb code 0xD8) tt
-    (cond-ind P (eqb code 0xC7) tt
-    (cond-ind P (eqb code 0xB9) (cond-case P (f .sleeps) (λ e. e) (λ e. tt)) (cond-ind P (eqb code 0xAB) (cond-ind P (f .sleeps) tt tt) tt)))))))))))
+turn-law f = rows-ind (λ code r. TurnLaw (r .turn) f code (r .busy)) f refl refl tt tt refl tt tt tt tt tt (λ e. e) (λ e. tt) (λ code. tt)
 
 -- BP of a settings byte does not exceed the part's highest
 bp-fits : (p b : ℕ) → leb (bpIn (figuresOf p) b) (figuresOf p .«highest_bp») ≡ true
@@ -73,17 +67,27 @@ rest-if : (a b : Bool) → (a ≡ true → b ≡ true) → b ≡ false → a ≡
 rest-if true b h e = sym (h refl) ∙ e
 rest-if false b h e = refl
 
+-- a cycle's duration is in range
+duration-fits : (k : Kind) (d : Device) → sound d ≡ true → rangedOf (durationOf k d) ≡ true
+duration-fits Settings d s = sound-has d s .status-fits
+duration-fits Page d s = sound-has d s .program-fits
+duration-fits Sector d s = sound-has d s .sector-fits
+duration-fits All d s = sound-has d s .bulk-fits
+
+settled-by-sound : (k : Kind) (d : Device) (b : ℕ) → sound d ≡ true → sound (settledBy k (figuresOf (d .part)) d b) ≡ true
+settled-by-sound Settings d b s = settled-sound d (srwdIn b) (bpIn (figuresOf (d .part)) b) s (bp-fits (d .part) b)
+settled-by-sound Page d b s = s
+settled-by-sound Sector d b s = s
+settled-by-sound All d b s = s
+
 -- a sound record stays sound by what its row does to it
-pub turned-sound : (t : Turn) (d : Device) (b code : ℕ) (busy : Bool) → TurnLaw t (figuresOf (d .part)) code busy → (isBusy (d .mode) ≡ true → busy ≡ true) → sound d ≡ true → sound (turned t d b) ≡ true
+pub turned-sound : (t : Turn) (d : Device) (b code : ℕ) (busy : Bool) → TurnLaw t (figuresOf (d .part)) code busy → (isBusy (d .mode) ≡ true → busy ≡ true) → sound d ≡ true
+    → sound (turned t (figuresOf (d .part)) d b) ≡ true
 unfolding turned
 turned-sound Keep d b code busy t h s = s
 turned-sound Enable d b code busy t h s = latched-sound d true s (idle (d .mode) (rest-if (isBusy (d .mode)) busy h t))
 turned-sound Disable d b code busy t h s = latched-sound d false s (idle (d .mode) (rest-if (isBusy (d .mode)) busy h t))
-turned-sound Settings d b code busy t h s =
-    running-sound (settled d (srwdIn b) (bpIn (figuresOf (d .part)) b)) (d .«write_status») (settled-sound d (srwdIn b) (bpIn (figuresOf (d .part)) b) s (bp-fits (d .part) b)) (sound-has d s .status-fits)
-turned-sound Program d b code busy t h s = running-sound d (d .program) s (sound-has d s .program-fits)
-turned-sound EraseSector d b code busy t h s = running-sound d (d .«sector_erase») s (sound-has d s .sector-fits)
-turned-sound EraseAll d b code busy t h s = running-sound d (d .«bulk_erase») s (sound-has d s .bulk-fits)
+turned-sound (Start k) d b code busy t h s = running-sound (settledBy k (figuresOf (d .part)) d b) (durationOf k d) (settled-by-sound k d b s) (duration-fits k d s)
 turned-sound Sleep d b code busy t h s = deep-sound d (d .latch) s t
 turned-sound Wake d b code busy t h s = standby-sound d (d .latch) s
 
@@ -102,29 +106,46 @@ pub record SameSettings (d e : Device) : Type 0 where
   pub bp : e .bp ≡ d .bp
   pub srwd : e .srwd ≡ d .srwd
 
-pub turned-make : (t : Turn) (d : Device) (b : ℕ) → SameMake d (turned t d b)
-unfolding turned running settled moded record-is.latched
-turned-make Keep d b = record { part = refl; program = refl; sector = refl; bulk = refl; status = refl }
-turned-make Enable d b = record { part = refl; program = refl; sector = refl; bulk = refl; status = refl }
-turned-make Disable d b = record { part = refl; program = refl; sector = refl; bulk = refl; status = refl }
-turned-make Settings d b = record { part = refl; program = refl; sector = refl; bulk = refl; status = refl }
-turned-make Program d b = record { part = refl; program = refl; sector = refl; bulk = refl; status = refl }
-turned-make EraseSector d b = record { part = refl; program = refl; sector = refl; bulk = refl; status = refl }
-turned-make EraseAll d b = record { part = refl; program = refl; sector = refl; bulk = refl; status = refl }
-turned-make Sleep d b = record { part = refl; program = refl; sector = refl; bulk = refl; status = refl }
-turned-make Wake d b = record { part = refl; program = refl; sector = refl; bulk = refl; status = refl }
+-- a record with another latch and mode
+same-make : (d : Device) (l : Bool) (m : Mode) → SameMake d (moded d l m)
+unfolding moded
+same-make d l m = record { part = refl; program = refl; sector = refl; bulk = refl; status = refl }
 
-pub turned-settings : (t : Turn) (d : Device) (f : Figures) (b code : ℕ) (busy : Bool) → TurnLaw t f code busy → (code ≡ 1 → ⊥) → SameSettings d (turned t d b)
-unfolding turned running settled moded record-is.latched
-turned-settings Keep d f b code busy t h = record { bp = refl; srwd = refl }
-turned-settings Enable d f b code busy t h = record { bp = refl; srwd = refl }
-turned-settings Disable d f b code busy t h = record { bp = refl; srwd = refl }
-turned-settings Settings d f b code busy t h = absurd (h t)
-turned-settings Program d f b code busy t h = record { bp = refl; srwd = refl }
-turned-settings EraseSector d f b code busy t h = record { bp = refl; srwd = refl }
-turned-settings EraseAll d f b code busy t h = record { bp = refl; srwd = refl }
-turned-settings Sleep d f b code busy t h = record { bp = refl; srwd = refl }
-turned-settings Wake d f b code busy t h = record { bp = refl; srwd = refl }
+started-make : (k : Kind) (f : Figures) (d : Device) (b t : ℕ) → SameMake d (running (settledBy k f d b) t)
+unfolding running moded settled
+started-make Settings f d b t = record { part = refl; program = refl; sector = refl; bulk = refl; status = refl }
+started-make Page f d b t = same-make d (latchAt t) (Busy t)
+started-make Sector f d b t = same-make d (latchAt t) (Busy t)
+started-make All f d b t = same-make d (latchAt t) (Busy t)
+
+pub turned-make : (t : Turn) (f : Figures) (d : Device) (b : ℕ) → SameMake d (turned t f d b)
+unfolding turned moded record-is.latched
+turned-make Keep f d b = same-make d (d .latch) (d .mode)
+turned-make Enable f d b = same-make d true (d .mode)
+turned-make Disable f d b = same-make d false (d .mode)
+turned-make (Start k) f d b = started-make k f d b (durationOf k d)
+turned-make Sleep f d b = same-make d (d .latch) Deep
+turned-make Wake f d b = same-make d (d .latch) Standby
+
+same-settings : (d : Device) (l : Bool) (m : Mode) → SameSettings d (moded d l m)
+unfolding moded
+same-settings d l m = record { bp = refl; srwd = refl }
+
+started-settings : (k : Kind) (f : Figures) (d : Device) (b code t : ℕ) → KindLaw k code → (code ≡ 1 → ⊥) → SameSettings d (running (settledBy k f d b) t)
+unfolding running
+started-settings Settings f d b code t l h = absurd (h l)
+started-settings Page f d b code t l h = same-settings d (latchAt t) (Busy t)
+started-settings Sector f d b code t l h = same-settings d (latchAt t) (Busy t)
+started-settings All f d b code t l h = same-settings d (latchAt t) (Busy t)
+
+pub turned-settings : (t : Turn) (d : Device) (f : Figures) (b code : ℕ) (busy : Bool) → TurnLaw t f code busy → (code ≡ 1 → ⊥) → SameSettings d (turned t f d b)
+unfolding turned moded record-is.latched
+turned-settings Keep d f b code busy t h = same-settings d (d .latch) (d .mode)
+turned-settings Enable d f b code busy t h = same-settings d true (d .mode)
+turned-settings Disable d f b code busy t h = same-settings d false (d .mode)
+turned-settings (Start k) d f b code busy t h = started-settings k f d b code (durationOf k d) t h
+turned-settings Sleep d f b code busy t h = same-settings d (d .latch) Deep
+turned-settings Wake d f b code busy t h = same-settings d (d .latch) Standby
 
 -- ---- waiting and power-up
 
@@ -145,7 +166,7 @@ pub record Rested (d e : Device) : Type 0 where
 
 same : (d : Device) (l : Bool) (m : Mode) → Rested d (moded d l m)
 unfolding moded
-same d l m = record { make = record { part = refl; program = refl; sector = refl; bulk = refl; status = refl }; settings = record { bp = refl; srwd = refl } }
+same d l m = record { make = same-make d l m; settings = same-settings d l m }
 
 waited-rests : (m : Mode) (d : Device) (t : ℕ) → Rested d (waitedIn m d t)
 unfolding running moded
@@ -153,14 +174,10 @@ waited-rests Standby d t = same d (d .latch) (d .mode)
 waited-rests (Busy left) d t = cond-ind (Rested d) (ltb t left) (same d (latchAt (left - t)) (Busy (left - t))) (same d false Standby)
 waited-rests Deep d t = same d (d .latch) (d .mode)
 
-by-answer : (P : Device → Type 0) (k : ℕ) {x y : Device} → P x → P y → P (onZero k x y)
-by-answer P zero p q = p
-by-answer P (suc k) p q = q
-
 pub wait-rests : (d : Device) (t : ℕ) → Rested d (waitCall d t .device)
 unfolding waitCall waited moded
-wait-rests d t = by-answer (Rested d) (soundAnswer d) (waited-rests (d .mode) d t) (same d (d .latch) (d .mode))
+wait-rests d t = zero-ind (Rested d) (soundAnswer d) (waited-rests (d .mode) d t) (same d (d .latch) (d .mode))
 
 pub power-up-rests : (d : Device) → Rested d (powerUpCall d .device)
 unfolding powerUpCall poweredUp moded
-power-up-rests d = by-answer (Rested d) (soundAnswer d) (same d false Standby) (same d (d .latch) (d .mode))
+power-up-rests d = zero-ind (Rested d) (soundAnswer d) (same d false Standby) (same d (d .latch) (d .mode))

@@ -20,8 +20,10 @@ use Rattle.device.specs.declared.Mode.{Mode}
 use Rattle.device.specs.declared.Mode.the-variants.{Standby, Busy, Deep}
 use Rattle.device.specs.declared.Device.{Device}
 use Rattle.device.specs.Device.{sound, busyBit, statusByte}
-use Rattle.chip.specs.declared.table.Area.{Area}
-use Rattle.chip.specs.declared.table.Area.the-variants.{Nowhere, Page, Sector, All}
+use Rattle.device.specs.declared.cycle.Kind.{Kind}
+use Rattle.device.specs.declared.cycle.Kind.the-variants.{Settings, Page, Sector, All}
+use Rattle.device.specs.Cycles.{touchedIn, touched}
+use Rattle.chip.specs.declared.table.Turn.{Turn}
 use Rattle.chip.specs.declared.table.Turn.the-variants.{Keep}
 use Rattle.chip.specs.declared.table.Drive.{Drive}
 use Rattle.chip.specs.declared.table.Drive.the-variants.{Nothing, Identification, Status, Array, Signature}
@@ -29,10 +31,11 @@ use Rattle.chip.specs.declared.table.Row.{Row}
 use Rattle.chip.specs.declared.Answer.{Answer}
 use Rattle.chip.specs.declared.answers.Verdict.{Verdict}
 use Rattle.chip.specs.declared.answers.Verdict.the-variants.{Refused, Ignored, Executed}
-use Rattle.chip.specs.Table.{addressOf}
-use Rattle.chip.specs.Answers.{refusal, isBusy, isDeep, writesSettings, guarded, asNeeded, ignorance, rowIn}
+use Rattle.chip.specs.Table.{addressOf, rowIn, onStart}
+use Rattle.chip.specs.Answers.{refusal, isBusy, isDeep, writesSettings, guarded, asNeeded, ignorance}
 use Rattle.chip.specs.Line.{Driven, onLine, kth, identification, byRow, heardRow, driven, lined}
-use Rattle.chip.specs.Change.{touchedIn, touched, cycleOf, turned}
+use Rattle.chip.specs.Change.{cycleOf, changed, asItWas, turned}
+use Rattle.chip.proofs.Rows.{start-ind}
 use Rattle.chip.specs.Outcome.{Outcome, outcomeOf, transacted}
 use Rattle.chip.proofs.Verdicts.{Host, Taken, Decision, refuses, ignores, executes, verdict-is, not-refused, not-ignored}
 use Rattle.slices.proofs.Choices.{cond-ind}
@@ -76,7 +79,7 @@ chip-number d r n pulses w at =
     (cond-ind OfChip (isDeep (d .mode) && not (r .deep)) (refl, λ h. lit≤ tt, lit≤ tt)
     (cond-ind OfChip (not (asNeeded r n pulses)) (refl, λ h. lit≤ tt, lit≤ tt)
     (cond-ind OfChip (r .latch && not (d .latch)) (refl, λ h. lit≤ tt, lit≤ tt)
-    (cond-ind OfChip (guarded (r .area) (figuresOf (d .part)) (d .bp) at) (refl, λ h. lit≤ tt, lit≤ tt)
+    (cond-ind OfChip (guarded (r .turn) (figuresOf (d .part)) d at) (refl, λ h. lit≤ tt, lit≤ tt)
     (cond-ind OfChip (writesSettings (r .turn) && d .srwd && not w) (refl, λ h. lit≤ tt, lit≤ tt) (refl, λ h. absurd (h refl), lit≤ tt))))))))
 
 -- what an answer's numbers are at most: the number 18, the first driven position 5, the count 65,536
@@ -96,12 +99,18 @@ map-bytes f xs h b i lt =
     let k : i < length xs = rw (length-map f xs) at lt in
     rw (getD-map f xs i 0 k) (h i (getD xs i 0) (b i k))
 
-touched-byte : (a : Area) (f : Figures) (at : ℕ) (slots : List ℕ) (i x : ℕ) → x < 256 → touchedIn a f at slots i x < 256
+touched-byte : (k : Kind) (f : Figures) (at : ℕ) (slots : List ℕ) (i x : ℕ) → x < 256 → touchedIn k f at slots i x < 256
 unfolding programmed erased
-touched-byte Nowhere f at slots i x h = h
+touched-byte Settings f at slots i x h = h
 touched-byte Page f at slots i x h = cond-ind (λ (y : ℕ). y < 256) (eqb (i / 256) (at / 256)) (omega (arith, and-le-l x (getD slots (i % 256) 0))) h
 touched-byte Sector f at slots i x h = cond-ind (λ (y : ℕ). y < 256) (eqb (i / f .«sector_bytes») (at / f .«sector_bytes»)) (lit< tt) h
 touched-byte All f at slots i x h = lit< tt
+
+changed-byte : (t : Turn) (f : Figures) (at : ℕ) (sent : List ℕ) (i x : ℕ) → x < 256 → changed t f at sent i x < 256
+unfolding changed touched
+changed-byte t f at sent i x h =
+    start-ind (λ (g : ℕ → ℕ → ℕ). g i x < 256) t (λ k. touched f (cycleOf k at sent)) asItWas
+    (λ k. touched-byte (cycleOf k at sent .kind) f (cycleOf k at sent .address) (cycleOf k at sent .slots) i x h) h
 
 -- a part's identification and signature are bytes
 pub record Figured (f : Figures) : Type 0 where
@@ -260,11 +269,10 @@ module _ (d : Device) (array sent : List ℕ) (pulses : ℕ) (w : Bool) (respons
 
   -- bytes stay bytes
   pub array-bytes : Bytes array → Bytes (out .array)
-  unfolding outcomeOf touched
+  unfolding outcomeOf
   array-bytes b =
-      let c = cycleOf (rowIn d sent .area) (addressOf (figuresOf (d .part)) sent) sent in
       outcome-ind (λ (o : Outcome). Bytes (o .array)) (λ a. b) (λ h n. b)
-      (λ h t. map-bytes (touched (figuresOf (d .part)) c) array (λ i x l. touched-byte (c .area) (figuresOf (d .part)) (c .at) (c .slots) i x l) b)
+      (λ h t. map-bytes (changed (rowIn d sent .turn) (figuresOf (d .part)) (addressOf (figuresOf (d .part)) sent) sent) array (λ i x l. changed-byte (rowIn d sent .turn) (figuresOf (d .part)) (addressOf (figuresOf (d .part)) sent) sent i x l) b)
 
   pub response-bytes : Bytes array → Bytes response → Bytes (out .response)
   unfolding outcomeOf lined window
@@ -294,5 +302,5 @@ module _ (d : Device) (array sent : List ℕ) (pulses : ℕ) (w : Bool) (respons
   pub make-stays : SameMake d (out .device)
   unfolding outcomeOf turned
   make-stays =
-      outcome-ind (λ (o : Outcome). SameMake d (o .device)) (λ a. turned-make Keep d 0) (λ h b. turned-make Keep d 0)
-      (λ h t. turned-make (rowIn d sent .turn) d (getD sent 1 0))
+      outcome-ind (λ (o : Outcome). SameMake d (o .device)) (λ a. turned-make Keep (figuresOf (d .part)) d 0) (λ h b. turned-make Keep (figuresOf (d .part)) d 0)
+      (λ h t. turned-make (rowIn d sent .turn) (figuresOf (d .part)) d (getD sent 1 0))

@@ -8,15 +8,15 @@ use native.Mathlib.Omega.{arith}
 use borrow.Author.Tests.{eqb-true, eqb-false, leb-true, ltb-false, not-false}
 use lib.Dec.{eqb, leb, ltb}
 use lib.ListN.{length}
-use Rattle.slices.proofs.Choices.{both}
+use Rattle.slices.proofs.Choices.{both, past}
 use Rattle.parts.specs.Parts.{figuresOf}
 use Rattle.device.specs.declared.Device.{Device}
 use Rattle.device.specs.Device.{sound}
 use Rattle.chip.specs.declared.table.Row.{Row}
 use Rattle.chip.specs.declared.answers.Verdict.{Verdict}
 use Rattle.chip.specs.declared.answers.Verdict.the-variants.{Refused, Ignored, Executed}
-use Rattle.chip.specs.Table.{addressOf}
-use Rattle.chip.specs.Answers.{refusal, isBusy, isDeep, writesSettings, guarded, asNeeded, ignorance, decided, rowIn, verdictOf}
+use Rattle.chip.specs.Table.{addressOf, rowIn}
+use Rattle.chip.specs.Answers.{refusal, isBusy, isDeep, writesSettings, guarded, asNeeded, ignorance, decided, verdictOf}
 
 -- ---- tests
 
@@ -40,26 +40,21 @@ pub record Host (d : Device) (array n pulses response : ℕ) : Type 0 where
   pub few : pulses ≤ 7
   pub room : n ≤ response
 
-none-of-five : (a b c d e : Bool) → _≡_ {A = ℕ} (cond a 6 (cond b 2 (cond c 3 (cond d 4 (cond e 5 0))))) 0
-    → (a ≡ false) × (b ≡ false) × (c ≡ false) × (d ≡ false) × (e ≡ false)
-none-of-five true b c d e h = absurd (omega arith)
-none-of-five false true c d e h = absurd (omega arith)
-none-of-five false false true d e h = absurd (omega arith)
-none-of-five false false false true e h = absurd (omega arith)
-none-of-five false false false false true h = absurd (omega arith)
-none-of-five false false false false false h = (refl, refl, refl, refl, refl)
-
 -- no refusal: every test of the host side passed
 pub not-refused : (d : Device) (array n pulses response : ℕ) → refusal d array n pulses response ≡ 0 → Host d array n pulses response
 unfolding refusal
 not-refused d array n pulses response h =
-    let p = none-of-five (not (sound d)) (not (eqb array (figuresOf (d .part) .bytes))) (ltb 65536 n) (ltb 7 pulses) (ltb response n) h in
+    let p6 = past (not (sound d)) 5 _ h in
+    let p2 = past (not (eqb array (figuresOf (d .part) .bytes))) 1 _ (p6 .1) in
+    let p3 = past (ltb 65536 n) 2 _ (p2 .1) in
+    let p4 = past (ltb 7 pulses) 3 _ (p3 .1) in
+    let p5 = past (ltb response n) 4 _ (p4 .1) in
     record {
-      sound = not-false (sound d) (p .0);
-      whole = eqb-true array (figuresOf (d .part) .bytes) (not-false (eqb array (figuresOf (d .part) .bytes)) (p .1));
-      short = ltb-false 65536 n (p .2);
-      few = ltb-false 7 pulses (p .3);
-      room = ltb-false response n (p .4);
+      sound = not-false (sound d) (p6 .0);
+      whole = eqb-true array (figuresOf (d .part) .bytes) (not-false (eqb array (figuresOf (d .part) .bytes)) (p2 .0));
+      short = ltb-false 65536 n (p3 .0);
+      few = ltb-false 7 pulses (p4 .0);
+      room = ltb-false response n (p5 .0);
     }
 
 -- ---- no number of the chip
@@ -68,7 +63,7 @@ not-refused d array n pulses response h =
 pub record Needs (r : Row) (n pulses : ℕ) : Type 0 where
   pub least : r .least ≤ n
   pub most : n ≤ r .most
-  pub still : r .still ≡ true → pulses ≡ 0
+  pub unpulsed : r .«no_pulses» ≡ true → pulses ≡ 0
 
 -- an instruction that the chip takes
 pub record Taken (d : Device) (r : Row) (n pulses : ℕ) (w : Bool) (at : ℕ) : Type 0 where
@@ -78,48 +73,41 @@ pub record Taken (d : Device) (r : Row) (n pulses : ℕ) (w : Bool) (at : ℕ) :
   pub deep : isDeep (d .mode) ≡ true → r .deep ≡ true
   pub needed : asNeeded r n pulses ≡ true
   pub latch : r .latch ≡ true → d .latch ≡ true
-  pub free : guarded (r .area) (figuresOf (d .part)) (d .bp) at ≡ false
+  pub free : guarded (r .turn) (figuresOf (d .part)) d at ≡ false
   pub unfrozen : writesSettings (r .turn) && d .srwd ≡ true → w ≡ true
 
 pub needs : (r : Row) (n pulses : ℕ) → asNeeded r n pulses ≡ true → Needs r n pulses
 unfolding asNeeded
 needs r n pulses e =
-    let p = both (leb (r .least) n && leb n (r .most)) (not (r .still) || eqb pulses 0) e in
+    let p = both (leb (r .least) n && leb n (r .most)) (not (r .«no_pulses») || eqb pulses 0) e in
     let q = both (leb (r .least) n) (leb n (r .most)) (p .0) in
     record {
       least = leb-true (r .least) n (q .0);
       most = leb-true n (r .most) (q .1);
-      still = λ s. eqb-true pulses 0 (implied (r .still) (eqb pulses 0) (p .1) s);
+      unpulsed = λ s. eqb-true pulses 0 (implied (r .«no_pulses») (eqb pulses 0) (p .1) s);
     }
-
-none-of-eight : (a b c d e f g h : Bool) → _≡_ {A = ℕ} (cond a 11 (cond b 14 (cond c 12 (cond d 13 (cond e 15 (cond f 16 (cond g 17 (cond h 18 0)))))))) 0
-    → (a ≡ false) × (b ≡ false) × (c ≡ false) × (d ≡ false) × (e ≡ false) × (f ≡ false) × (g ≡ false) × (h ≡ false)
-none-of-eight true b c d e f g h z = absurd (omega arith)
-none-of-eight false true c d e f g h z = absurd (omega arith)
-none-of-eight false false true d e f g h z = absurd (omega arith)
-none-of-eight false false false true e f g h z = absurd (omega arith)
-none-of-eight false false false false true f g h z = absurd (omega arith)
-none-of-eight false false false false false true g h z = absurd (omega arith)
-none-of-eight false false false false false false true h z = absurd (omega arith)
-none-of-eight false false false false false false false true z = absurd (omega arith)
-none-of-eight false false false false false false false false z = (refl, refl, refl, refl, refl, refl, refl, refl)
 
 -- no ignorance: every test of the chip passed
 pub not-ignored : (d : Device) (r : Row) (n pulses : ℕ) (w : Bool) (at : ℕ) → ignorance d r n pulses w at ≡ 0 → Taken d r n pulses w at
 unfolding ignorance
 not-ignored d r n pulses w at h =
-    let p =
-    none-of-eight (eqb n 0) (not (r .known)) (isBusy (d .mode) && not (r .busy)) (isDeep (d .mode) && not (r .deep)) (not (asNeeded r n pulses)) (r .latch && not (d .latch))
-    (guarded (r .area) (figuresOf (d .part)) (d .bp) at) (writesSettings (r .turn) && d .srwd && not w) h in
+    let p11 = past (eqb n 0) 10 _ h in
+    let p14 = past (not (r .known)) 13 _ (p11 .1) in
+    let p12 = past (isBusy (d .mode) && not (r .busy)) 11 _ (p14 .1) in
+    let p13 = past (isDeep (d .mode) && not (r .deep)) 12 _ (p12 .1) in
+    let p15 = past (not (asNeeded r n pulses)) 14 _ (p13 .1) in
+    let p16 = past (r .latch && not (d .latch)) 15 _ (p15 .1) in
+    let p17 = past (guarded (r .turn) (figuresOf (d .part)) d at) 16 _ (p16 .1) in
+    let p18 = past (writesSettings (r .turn) && d .srwd && not w) 17 _ (p17 .1) in
     record {
-      some = eqb-false n 0 (p .0);
-      known = not-false (r .known) (p .1);
-      busy = unless (isBusy (d .mode)) (r .busy) (p .2);
-      deep = unless (isDeep (d .mode)) (r .deep) (p .3);
-      needed = not-false (asNeeded r n pulses) (p .4);
-      latch = unless (r .latch) (d .latch) (p .5);
-      free = p .6;
-      unfrozen = unless (writesSettings (r .turn) && d .srwd) w (p .7);
+      some = eqb-false n 0 (p11 .0);
+      known = not-false (r .known) (p14 .0);
+      busy = unless (isBusy (d .mode)) (r .busy) (p12 .0);
+      deep = unless (isDeep (d .mode)) (r .deep) (p13 .0);
+      needed = not-false (asNeeded r n pulses) (p15 .0);
+      latch = unless (r .latch) (d .latch) (p16 .0);
+      free = p17 .0;
+      unfrozen = unless (writesSettings (r .turn) && d .srwd) w (p18 .0);
     }
 
 -- ---- the verdict

@@ -15,7 +15,8 @@ use Rattle.device.specs.Device.{waitCall, powerUpCall, soundAnswer, waited, pow
 use Rattle.chip.specs.Table.{rowOf, addressOf}
 use Rattle.chip.specs.Answers.{refusal, inProtected, asNeeded, ignorance, decided, verdictOf}
 use Rattle.chip.specs.Line.{byRow, heard, heardRow, driven, lined, drivingAt, firstOf, countOf}
-use Rattle.chip.specs.Change.{none, cycleOf, touched, bpIn, turned}
+use Rattle.device.specs.Cycles.{noSlots, touched}
+use Rattle.chip.specs.Change.{cycleOf, changed, bpIn, turned}
 use Rattle.chip.specs.Outcome.{Outcome, outcomeOf, transacted}
 use Rattle.chip.specs.Worked.{Event, sends, waits, starts, holds, Case, buffer, gave, sees, fresh, all, cases, further}
 use Rattle.chip.proofs.Rules.{array-length}
@@ -60,7 +61,7 @@ all-at (k ∷ ks) =
     (all-at ks)
 
 computed : T (allAt cases) × T (allAt further)
-unfolding allAt cases further seesAt mapAt window sumAt memory-is.blank memory-is.latched memory-is.programmed memory-is.erased figuresOf protectedOf columnOf uncelled waitCall powerUpCall soundAnswer waited poweredUp sound statusByte moded latched settled running latchAt rowOf addressOf refusal inProtected asNeeded ignorance decided verdictOf byRow heard heardRow driven lined drivingAt firstOf countOf none cycleOf touched bpIn turned outcomeOf
+unfolding allAt cases further seesAt mapAt window sumAt memory-is.blank memory-is.latched memory-is.programmed memory-is.erased figuresOf protectedOf columnOf uncelled waitCall powerUpCall soundAnswer waited poweredUp sound statusByte moded latched settled running latchAt rowOf addressOf refusal inProtected asNeeded ignorance decided verdictOf byRow heard heardRow driven lined drivingAt firstOf countOf noSlots cycleOf touched changed bpIn turned outcomeOf
 computed = (tt, tt)
 
 -- K1 to K15 hold

@@ -11,14 +11,13 @@ use Rattle.device.specs.declared.Mode.{Mode}
 use Rattle.device.specs.declared.Mode.the-variants.{Standby, Busy, Deep}
 use Rattle.device.specs.declared.Device.{Device}
 use Rattle.device.specs.Device.{sound, rangedOf}
-use Rattle.chip.specs.declared.table.Area.{Area}
-use Rattle.chip.specs.declared.table.Area.the-variants.{Nowhere, Page, Sector, All}
+use Rattle.device.specs.declared.cycle.Kind.{Kind}
+use Rattle.device.specs.declared.cycle.Kind.the-variants.{Settings, Page, Sector, All}
 use Rattle.chip.specs.declared.table.Turn.{Turn}
-use Rattle.chip.specs.declared.table.Turn.the-variants.{Keep, Enable, Disable, Settings, Program, EraseSector, EraseAll, Sleep, Wake}
 use Rattle.chip.specs.declared.table.Row.{Row}
 use Rattle.chip.specs.declared.answers.Verdict.{Verdict}
 use Rattle.chip.specs.declared.answers.Verdict.the-variants.{Refused, Ignored, Executed}
-use Rattle.chip.specs.Table.{rowOf, addressOf}
+use Rattle.chip.specs.Table.{longest, addressOf, rowIn, onStart}
 
 -- ---- the host side
 
@@ -35,7 +34,7 @@ unfoldable pub refusal : Device → ℕ → ℕ → ℕ → ℕ → ℕ
 refusal d array n pulses response =
     cond (not (sound d)) 6
     (cond (not (eqb array (figuresOf (d .part) .bytes))) 2
-    (cond (ltb 65536 n) 3
+    (cond (ltb longest n) 3
     (cond (ltb 7 pulses) 4
     (cond (ltb response n) 5
     0))))
@@ -52,32 +51,35 @@ isDeep Standby = false
 isDeep (Busy left) = false
 isDeep Deep = true
 
--- WRSR, the row that writes the settings
+-- a cycle that writes the settings
+abbrev pub isSettings : Kind → Bool
+isSettings Settings = true
+isSettings Page = false
+isSettings Sector = false
+isSettings All = false
+
+-- WRSR, the instruction that writes the settings
 abbrev pub writesSettings : Turn → Bool
-writesSettings Keep = false
-writesSettings Enable = false
-writesSettings Disable = false
-writesSettings Settings = true
-writesSettings Program = false
-writesSettings EraseSector = false
-writesSettings EraseAll = false
-writesSettings Sleep = false
-writesSettings Wake = false
+writesSettings t = onStart t isSettings false
 
 -- whether the sector of an address is among the highest that BP protects
 unfoldable pub inProtected : Figures → ℕ → ℕ → Bool
 inProtected f bp at = leb (f .sectors - protectedOf (f .sectors) bp) (at / f .«sector_bytes»)
 
--- PP or SE in a protected sector; BE with BP above 0
-abbrev pub guarded : Area → Figures → ℕ → ℕ → Bool
-guarded Nowhere f bp at = false
-guarded Page f bp at = inProtected f bp at
-guarded Sector f bp at = inProtected f bp at
-guarded All f bp at = ltb 0 bp
+-- what guards a cycle: PP or SE in a protected sector; BE with BP above 0
+abbrev pub guardedIn : Kind → Figures → Device → ℕ → Bool
+guardedIn Settings f d at = false
+guardedIn Page f d at = inProtected f (d .bp) at
+guardedIn Sector f d at = inProtected f (d .bp) at
+guardedIn All f d at = ltb 0 (d .bp)
+
+-- an instruction whose cycle is guarded
+abbrev pub guarded : Turn → Figures → Device → ℕ → Bool
+guarded t f d at = onStart t (λ k. guardedIn k f d at) false
 
 -- whether n and the further pulses are as needed
 unfoldable pub asNeeded : Row → ℕ → ℕ → Bool
-asNeeded r n pulses = leb (r .least) n && leb n (r .most) && (not (r .still) || eqb pulses 0)
+asNeeded r n pulses = leb (r .least) n && leb n (r .most) && (not (r .«no_pulses») || eqb pulses 0)
 
 -- the chip ignores: 11, 14, 12, 13, 15, 16, 17, 18, or 0
 unfoldable pub ignorance : Device → Row → ℕ → ℕ → Bool → ℕ → ℕ
@@ -88,7 +90,7 @@ ignorance d r n pulses w at =
     (cond (isDeep (d .mode) && not (r .deep)) 13
     (cond (not (asNeeded r n pulses)) 15
     (cond (r .latch && not (d .latch)) 16
-    (cond (guarded (r .area) (figuresOf (d .part)) (d .bp) at) 17
+    (cond (guarded (r .turn) (figuresOf (d .part)) d at) 17
     (cond (writesSettings (r .turn) && d .srwd && not w) 18
     0)))))))
 
@@ -97,10 +99,6 @@ ignorance d r n pulses w at =
 -- a refusal before an ignored instruction, and either before an executed one
 unfoldable pub decided : ℕ → ℕ → Verdict
 decided host chip = cond (eqb host 0) (cond (eqb chip 0) Executed (Ignored chip)) (Refused host)
-
--- the row of a transaction's first byte
-abbrev pub rowIn : Device → List ℕ → Row
-rowIn d sent = rowOf (figuresOf (d .part)) (getD sent 0 0)
 
 -- what becomes of a transaction
 unfoldable pub verdictOf : Device → ℕ → List ℕ → ℕ → Bool → ℕ → Verdict

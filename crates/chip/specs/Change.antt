@@ -3,45 +3,40 @@ use mathlib.Core.Bool.{Bool, true, false, cond}
 use mathlib.Core.List.{List}
 use Prim.Native.Nat.{ℕ, _/_, _%_}
 use lib.Dec.{eqb, leb}
-use lib.ListN.{getD, drop, replicate}
-use Rattle.memory.specs.Memory.{blank, latched, programmed, erased}
+use lib.ListN.{drop}
+use Rattle.memory.specs.Memory.{blank, latched}
 use Rattle.parts.specs.declared.Figures.{Figures}
-use Rattle.parts.specs.Parts.{figuresOf}
 use Rattle.device.specs.declared.Mode.the-variants.{Standby, Deep}
 use Rattle.device.specs.declared.Device.{Device}
+use Rattle.device.specs.declared.cycle.Kind.{Kind}
+use Rattle.device.specs.declared.cycle.Kind.the-variants.{Settings, Page, Sector, All}
+use Rattle.device.specs.declared.cycle.Cycle.{Cycle}
 use Rattle.device.specs.Device.{moded, settled, running}
 use Rattle.device.specs.Device as record-is
-use Rattle.chip.specs.declared.table.Area.{Area}
-use Rattle.chip.specs.declared.table.Area.the-variants.{Nowhere, Page, Sector, All}
+use Rattle.device.specs.Cycles.{noSlots, touched, durationOf}
 use Rattle.chip.specs.declared.table.Turn.{Turn}
-use Rattle.chip.specs.declared.table.Turn.the-variants.{Keep, Enable, Disable, Settings, Program, EraseSector, EraseAll, Sleep, Wake}
-use Rattle.chip.specs.declared.change.Cycle.{Cycle}
+use Rattle.chip.specs.declared.table.Turn.the-variants.{Keep, Enable, Disable, Start, Sleep, Wake}
+use Rattle.chip.specs.Table.{onStart}
 
 -- ---- the array
 
--- the slots of a cycle that has none
-unfoldable pub none : List ℕ
-none = replicate 256 0
+-- a cycle is a kind, an address and 256 slots, zero but for what its kind uses: a program's data, from byte 4 on, goes to a latch of 256 bytes, all FF at first
+abbrev pub cycleIn : Kind → ℕ → List ℕ → Cycle
+cycleIn Settings at sent = record { kind = Settings; address = 0; slots = noSlots }
+cycleIn Page at sent = record { kind = Page; address = at; slots = latched blank at (drop 4 sent) }
+cycleIn Sector at sent = record { kind = Sector; address = at; slots = noSlots }
+cycleIn All at sent = record { kind = All; address = 0; slots = noSlots }
 
--- a cycle is an area, an address and 256 slots, zero but for what its area uses: a program's data, from byte 4 on, goes to a latch of 256 bytes, all FF at first
-abbrev pub cycleIn : Area → ℕ → List ℕ → Cycle
-cycleIn Nowhere at sent = record { area = Nowhere; at = 0; slots = none }
-cycleIn Page at sent = record { area = Page; at = at; slots = latched blank at (drop 4 sent) }
-cycleIn Sector at sent = record { area = Sector; at = at; slots = none }
-cycleIn All at sent = record { area = All; at = 0; slots = none }
+unfoldable pub cycleOf : Kind → ℕ → List ℕ → Cycle
+cycleOf kind at sent = cycleIn kind at sent
 
-unfoldable pub cycleOf : Area → ℕ → List ℕ → Cycle
-cycleOf area at sent = cycleIn area at sent
+-- byte x at place i as it was
+abbrev pub asItWas : ℕ → ℕ → ℕ
+asItWas i x = x
 
--- byte x at place i after the cycle: itself and its slot in the addressed page, FF in the addressed sector, FF everywhere
-abbrev pub touchedIn : Area → Figures → ℕ → List ℕ → ℕ → ℕ → ℕ
-touchedIn Nowhere f at slots i x = x
-touchedIn Page f at slots i x = programmed at slots i x
-touchedIn Sector f at slots i x = erased (f .«sector_bytes») at i x
-touchedIn All f at slots i x = 255
-
-unfoldable pub touched : Figures → Cycle → ℕ → ℕ → ℕ
-touched f c i x = touchedIn (c .area) f (c .at) (c .slots) i x
+-- what becomes of byte x at place i: what the cycle makes of it, where one is started
+unfoldable pub changed : Turn → Figures → ℕ → List ℕ → ℕ → ℕ → ℕ
+changed t f at sent = onStart t (λ k. touched f (cycleOf k at sent)) asItWas
 
 -- ---- the record
 
@@ -53,17 +48,21 @@ srwdIn b = leb 128 b
 unfoldable pub bpIn : Figures → ℕ → ℕ
 bpIn f b = cond (eqb (f .«highest_bp») 3) (b / 4 % 4) (b / 4 % 8)
 
--- the record after an executed instruction; b is the transaction's byte 1
-abbrev pub turnedIn : Turn → Device → ℕ → Device
-turnedIn Keep d b = d
-turnedIn Enable d b = record-is.latched d true
-turnedIn Disable d b = record-is.latched d false
-turnedIn Settings d b = running (settled d (srwdIn b) (bpIn (figuresOf (d .part)) b)) (d .«write_status»)
-turnedIn Program d b = running d (d .program)
-turnedIn EraseSector d b = running d (d .«sector_erase»)
-turnedIn EraseAll d b = running d (d .«bulk_erase»)
-turnedIn Sleep d b = moded d (d .latch) Deep
-turnedIn Wake d b = moded d (d .latch) Standby
+-- the settings after a cycle of a kind; b is the transaction's byte 1
+abbrev pub settledBy : Kind → Figures → Device → ℕ → Device
+settledBy Settings f d b = settled d (srwdIn b) (bpIn f b)
+settledBy Page f d b = d
+settledBy Sector f d b = d
+settledBy All f d b = d
 
-unfoldable pub turned : Turn → Device → ℕ → Device
-turned t d b = turnedIn t d b
+-- the record after an executed instruction
+abbrev pub turnedIn : Turn → Figures → Device → ℕ → Device
+turnedIn Keep f d b = d
+turnedIn Enable f d b = record-is.latched d true
+turnedIn Disable f d b = record-is.latched d false
+turnedIn (Start k) f d b = running (settledBy k f d b) (durationOf k d)
+turnedIn Sleep f d b = moded d (d .latch) Deep
+turnedIn Wake f d b = moded d (d .latch) Standby
+
+unfoldable pub turned : Turn → Figures → Device → ℕ → Device
+turned t f d b = turnedIn t f d b

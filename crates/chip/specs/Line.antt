@@ -14,8 +14,8 @@ use Rattle.chip.specs.declared.table.Drive.{Drive}
 use Rattle.chip.specs.declared.table.Drive.the-variants.{Nothing, Identification, Status, Array, Signature}
 use Rattle.chip.specs.declared.table.Row.{Row}
 use Rattle.chip.specs.declared.line.Span.{Span}
-use Rattle.chip.specs.Table.{addressOf, unknown}
-use Rattle.chip.specs.Answers.{isBusy, isDeep, rowIn}
+use Rattle.chip.specs.Table.{addressOf, onlyIf, rowIn}
+use Rattle.chip.specs.Answers.{isBusy, isDeep}
 
 -- what the chip does with the line during one byte
 pub data Driven : Type 0 where
@@ -50,7 +50,7 @@ heard d r = r .known && ((not (isBusy (d .mode)) || r .busy) && (not (isDeep (d 
 
 -- the row that the chip goes by: an instruction that is not taken at all is as an unknown one
 unfoldable pub heardRow : Device → List ℕ → Row
-heardRow d before = cond (heard d (rowIn d before)) (rowIn d before) unknown
+heardRow d before = onlyIf (heard d (rowIn d before)) (rowIn d before)
 
 -- what is driven during the byte that comes after the bytes before
 unfoldable pub driven : Device → List ℕ → List ℕ → Driven

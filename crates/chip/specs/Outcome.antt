@@ -2,20 +2,20 @@
 use mathlib.Core.Path.{_≡_}
 use mathlib.Core.Bool.{Bool}
 use mathlib.Core.List.{List}
-use Prim.Native.Nat.{ℕ, zero, suc}
+use Prim.Native.Nat.{ℕ}
 use lib.ListN.{length, getD}
 use Rattle.slices.specs.Changed.{mapAt, window, put}
 use Rattle.parts.specs.Parts.{figuresOf}
 use Rattle.device.specs.declared.Device.{Device}
 use Rattle.device.specs.declared.Checked.{Checked}
-use Rattle.device.specs.Device.{zeroRecord, delivered}
+use Rattle.device.specs.Device.{onZero, zeroRecord, delivered}
 use Rattle.chip.specs.declared.answers.Verdict.{Verdict}
 use Rattle.chip.specs.declared.answers.Verdict.the-variants.{Refused, Ignored, Executed}
 use Rattle.chip.specs.declared.Answer.{Answer}
-use Rattle.chip.specs.Table.{addressOf}
-use Rattle.chip.specs.Answers.{deliveryAnswer, verdictOf, rowIn}
+use Rattle.chip.specs.Table.{addressOf, rowIn}
+use Rattle.chip.specs.Answers.{deliveryAnswer, verdictOf}
 use Rattle.chip.specs.Line.{lined, firstOf, countOf}
-use Rattle.chip.specs.Change.{cycleOf, touched, turned}
+use Rattle.chip.specs.Change.{changed, turned}
 
 -- ---- a transaction
 
@@ -38,8 +38,8 @@ outcomeOf (Ignored k) d array sent response =
 outcomeOf Executed d array sent response =
     record {
       answer = record { number = 0; first = firstOf d array sent; count = countOf d array sent };
-      device = turned (rowIn d sent .turn) d (getD sent 1 0);
-      array = mapAt (touched (figuresOf (d .part)) (cycleOf (rowIn d sent .area) (addressOf (figuresOf (d .part)) sent) sent)) array;
+      device = turned (rowIn d sent .turn) (figuresOf (d .part)) d (getD sent 1 0);
+      array = mapAt (changed (rowIn d sent .turn) (figuresOf (d .part)) (addressOf (figuresOf (d .part)) sent) sent) array;
       response = mapAt (lined d array sent) response;
     }
 
@@ -61,18 +61,8 @@ Transacted d array sent pulses w response = Meets (transacted d array sent pulse
 
 -- ---- a delivery
 
--- an executed delivery gives the record as delivered; a refused one the all-zero record
-abbrev pub recordBy : ℕ → Device → Device
-recordBy zero d = d
-recordBy (suc k) d = zeroRecord
-
--- an executed delivery makes the array all FF; a refused one leaves it
-abbrev pub arrayBy : ℕ → List ℕ → List ℕ
-arrayBy zero array = mapAt (put 255) array
-arrayBy (suc k) array = array
-
--- what a delivery promises
+-- what a delivery promises: executed, the record as delivered and the array all FF; refused, the all-zero record and the array as it was
 pub record Delivered (part : ℕ) (array : List ℕ) (program sector bulk status : ℕ) (r : Checked) (array′ : List ℕ) : Type 0 where
   pub answer : r .answer ≡ deliveryAnswer part (length array) program sector bulk status
-  pub device : r .device ≡ recordBy (deliveryAnswer part (length array) program sector bulk status) (delivered part program sector bulk status)
-  pub memory : array′ ≡ arrayBy (deliveryAnswer part (length array) program sector bulk status) array
+  pub device : r .device ≡ onZero (deliveryAnswer part (length array) program sector bulk status) (delivered part program sector bulk status) zeroRecord
+  pub memory : array′ ≡ onZero (deliveryAnswer part (length array) program sector bulk status) (mapAt (put 255) array) array

@@ -1,14 +1,16 @@
 // The answer numbers: the first that applies.
 ghost use mathlib.Core.Path.{_≡_};
+ghost use mathlib.Core.Bool.{cond, not, _&&_};
+ghost use Prim.Native.Nat.{_<_};
 ghost use Rattle.parts.specs.Parts.{figuresOf};
-ghost use Rattle.chip.specs.Answers.{refusal, isBusy, isDeep, writesSettings, inProtected, guarded, asNeeded, ignorance, decided, verdictOf};
-use crate::table::Area;
+ghost use Rattle.chip.specs.Answers.{refusal, isBusy, isDeep, isSettings, writesSettings, inProtected, guardedIn, guarded, asNeeded, ignorance, decided};
+use crate::table::Instruction;
+use crate::table::LONGEST;
 use crate::table::Row;
 use crate::table::Turn;
-use crate::table::address;
-use crate::table::decode;
 use device::Device;
 use device::Mode;
+use device::cycle::Kind;
 use parts::Figures;
 
 // What becomes of a transaction: refused by the host side, ignored by the chip, each with its number, or executed.
@@ -26,7 +28,7 @@ pub fn refused(device: Device, array: usize, n: usize, pulses: u32, response: us
     let sound = device.sound();
     let x = slices::when(response < n, 5, 0);
     let x = slices::when(7 < pulses, 4, x);
-    let x = slices::when(65_536 < n, 3, x);
+    let x = slices::when(LONGEST < n, 3, x);
     let x = slices::when(array != figures.bytes, 2, x);
     slices::when(!sound, 6, x)
 }
@@ -53,42 +55,58 @@ pub(crate) fn is_deep(mode: Mode) -> bool
     }
 }
 
-// Whether it is the turn of WRSR.
-fn writes_settings(turn: Turn) -> bool
-    ensures { λ r. ⌜ r ≡ writesSettings turn ⌝ }
+// Whether a cycle writes the settings.
+fn is_settings(kind: Kind) -> bool
+    ensures { λ r. ⌜ r ≡ isSettings kind ⌝ }
 {
-    match turn {
-        Turn::Keep => false,
-        Turn::Enable => false,
-        Turn::Disable => false,
-        Turn::Settings => true,
-        Turn::Program => false,
-        Turn::EraseSector => false,
-        Turn::EraseAll => false,
-        Turn::Sleep => false,
-        Turn::Wake => false,
+    match kind {
+        Kind::Settings => true,
+        Kind::Page => false,
+        Kind::Sector => false,
+        Kind::All => false,
     }
 }
 
 // Whether the sector of an address is among the protected ones.
-fn in_protected(part: u8, bp: u8, at: u32) -> bool
-    ensures { λ r. ⌜ r ≡ inProtected (figuresOf part) bp at ⌝ }
+fn in_protected(figures: Figures, bp: u8, at: u32) -> bool
+    requires { ⌜ 0 < figures .«sector_bytes» ⌝ }
+    ensures { λ r. ⌜ r ≡ inProtected figures bp at ⌝ }
 {
-    let figures = Figures::of(part);
     let few = parts::protected(figures.sectors, bp);
     let sector = (at as usize) / figures.sector_bytes;
     figures.sectors - few <= sector
 }
 
-// PP or SE in a protected sector; BE with BP above 0.
-fn is_guarded(area: Area, part: u8, bp: u8, at: u32) -> bool
-    ensures { λ r. ⌜ r ≡ guarded area (figuresOf part) bp at ⌝ }
+// What guards a cycle: PP or SE in a protected sector; BE with BP above 0.
+fn is_guarded(kind: Kind, figures: Figures, device: Device, at: u32) -> bool
+    requires { ⌜ 0 < figures .«sector_bytes» ⌝ }
+    ensures { λ r. ⌜ r ≡ guardedIn kind figures device at ⌝ }
 {
-    match area {
-        Area::Nowhere => false,
-        Area::Page => in_protected(part, bp, at),
-        Area::Sector => in_protected(part, bp, at),
-        Area::All => 0 < bp,
+    match kind {
+        Kind::Settings => false,
+        Kind::Page => in_protected(figures, device.bp, at),
+        Kind::Sector => in_protected(figures, device.bp, at),
+        Kind::All => 0 < device.bp,
+    }
+}
+
+// The number of an instruction whose cycle is guarded, or frozen: 17, 18, or 0.
+fn guard_number(turn: Turn, figures: Figures, device: Device, w: bool, at: u32) -> u8
+    requires { ⌜ 0 < figures .«sector_bytes» ⌝ }
+    ensures { λ r. ⌜ r ≡ cond (guarded turn figures device at) 17 (cond (writesSettings turn && device .srwd && not w) 18 0) ⌝ }
+{
+    match turn {
+        Turn::Start(kind) => {
+            let locked = is_guarded(kind, figures, device, at);
+            let settings = is_settings(kind);
+            let x = slices::when(settings & device.srwd & !w, 18, 0);
+            slices::when(locked, 17, x)
+        }
+        Turn::Keep => 0,
+        Turn::Enable => 0,
+        Turn::Disable => 0,
+        Turn::Sleep => 0,
+        Turn::Wake => 0,
     }
 }
 
@@ -96,23 +114,22 @@ fn is_guarded(area: Area, part: u8, bp: u8, at: u32) -> bool
 fn as_needed(row: Row, n: usize, pulses: u32) -> bool
     ensures { λ r. ⌜ r ≡ asNeeded row n pulses ⌝ }
 {
-    (row.least <= n) & (n <= row.most) & (!row.still | (pulses == 0))
+    (row.least <= n) & (n <= row.most) & (!row.no_pulses | (pulses == 0))
 }
 
 // The chip's number, or 0.
-fn ignored(device: Device, row: Row, n: usize, pulses: u32, w: bool, at: u32) -> u8
-    ensures { λ r. ⌜ r ≡ ignorance device row n pulses w at ⌝ }
+fn ignored(device: Device, asked: Instruction, n: usize, pulses: u32, w: bool) -> u8
+    requires { ⌜ asked .figures ≡ figuresOf (device .part) ⌝ }
+    ensures { λ r. ⌜ r ≡ ignorance device (asked .row) n pulses w (asked .address) ⌝ }
 {
     let mode = device.mode;
     let busy = is_busy(mode);
     let deep = is_deep(mode);
+    let figures = asked.figures;
+    let row = asked.row;
     let turn = row.turn;
-    let area = row.area;
-    let settings = writes_settings(turn);
-    let locked = is_guarded(area, device.part, device.bp, at);
     let fits = as_needed(row, n, pulses);
-    let x = slices::when(settings & device.srwd & !w, 18, 0);
-    let x = slices::when(locked, 17, x);
+    let x = guard_number(turn, figures, device, w, asked.address);
     let x = slices::when(row.latch & !device.latch, 16, x);
     let x = slices::when(!fits, 15, x);
     let x = slices::when(deep & !row.deep, 13, x);
@@ -134,22 +151,20 @@ fn decide(host: u8, chip: u8) -> Verdict
     Verdict::Executed
 }
 
-// What becomes of a transaction with an array and a response of these lengths.
+// What becomes of a transaction of n bytes with an array and a response of these lengths.
 pub(crate) fn judge(
     device: Device,
+    asked: Instruction,
     array: usize,
-    sent: &[u8],
+    n: usize,
     pulses: u32,
     w: bool,
     response: usize,
 ) -> Verdict
-    ensures { λ r. ⌜ r ≡ verdictOf device array (now (sent .entry)) pulses w response ⌝ }
+    requires { ⌜ asked .figures ≡ figuresOf (device .part) ⌝ }
+    ensures { λ r. ⌜ r ≡ decided (refusal device array n pulses response) (ignorance device (asked .row) n pulses w (asked .address)) ⌝ }
 {
-    let figures = Figures::of(device.part);
-    let code = slices::byte_at(sent, 0);
-    let row = decode(figures, code);
-    let at = address(figures, sent);
-    let host = refused(device, array, sent.len(), pulses, response);
-    let chip = ignored(device, row, sent.len(), pulses, w, at);
+    let host = refused(device, array, n, pulses, response);
+    let chip = ignored(device, asked, n, pulses, w);
     decide(host, chip)
 }

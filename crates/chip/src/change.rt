@@ -1,65 +1,60 @@
-// What an executed instruction changes: the array by a cycle, the record by a turn.
+// What an executed instruction changes: the array by the cycle that it starts, and the record.
 ghost use mathlib.Core.Path.{_≡_};
 ghost use Rattle.slices.specs.Changed.{mapAt};
-ghost use Rattle.chip.specs.Change.{cycleOf, touched, bpIn, turned};
-use crate::table::Area;
+ghost use Rattle.chip.specs.Change.{cycleOf, changed, bpIn, settledBy, turned};
 use crate::table::Turn;
 use device::Device;
 use device::Mode;
+use device::cycle::Cycle;
+use device::cycle::Kind;
 use parts::Figures;
 
-// A change of the array: where, and for a program its slots; zero but for what its area uses.
-pub struct Cycle {
-    pub area: Area,
-    pub at: u32,
-    pub slots: [u8; 256],
-}
-
-// The cycle of a transaction.
-pub(crate) fn cycle_of(area: Area, at: u32, sent: &[u8]) -> Cycle
-    ensures { λ r. ⌜ r ≡ cycleOf area at (now (sent .entry)) ⌝ }
+// The cycle of a kind that a transaction starts.
+fn cycle_of(kind: Kind, at: u32, sent: &[u8]) -> Cycle
+    ensures { λ r. ⌜ r ≡ cycleOf kind at (now (sent .entry)) ⌝ }
 {
-    match area {
-        Area::Nowhere => Cycle {
-            area: Area::Nowhere,
-            at: 0,
+    match kind {
+        Kind::Settings => Cycle {
+            kind: Kind::Settings,
+            address: 0,
             slots: [0; 256],
         },
-        Area::Page => {
+        Kind::Page => {
             let from = slices::least(4, sent.len());
             let slots = memory::page_latch(&sent[from..], at);
             Cycle {
-                area: Area::Page,
-                at,
+                kind: Kind::Page,
+                address: at,
                 slots,
             }
         }
-        Area::Sector => Cycle {
-            area: Area::Sector,
-            at,
+        Kind::Sector => Cycle {
+            kind: Kind::Sector,
+            address: at,
             slots: [0; 256],
         },
-        Area::All => Cycle {
-            area: Area::All,
-            at: 0,
+        Kind::All => Cycle {
+            kind: Kind::All,
+            address: 0,
             slots: [0; 256],
         },
     }
 }
 
-// Carries a cycle out.
-pub(crate) fn complete(figures: Figures, cycle: Cycle, array: &mut [u8])
-    ensures { λ _. ⌜ now (array .exit) ≡ mapAt (touched figures cycle) (now (array .entry)) ⌝ }
+// Carries out the cycle that an instruction starts.
+pub(crate) fn carry_out(turn: Turn, figures: Figures, at: u32, sent: &[u8], array: &mut [u8])
+    ensures { λ _. ⌜ now (array .exit) ≡ mapAt (changed turn figures at (now (sent .entry))) (now (array .entry)) ⌝ }
 {
-    let size = figures.sector_bytes;
-    let at = cycle.at as usize;
-    let area = cycle.area;
-    let slots = cycle.slots;
-    match area {
-        Area::Nowhere => {}
-        Area::Page => memory::program_page(array, at, slots),
-        Area::Sector => memory::erase_sector(array, size, at),
-        Area::All => memory::erase_all(array),
+    match turn {
+        Turn::Start(kind) => {
+            let cycle = cycle_of(kind, at, sent);
+            cycle.complete(figures, array);
+        }
+        Turn::Keep => {}
+        Turn::Enable => {}
+        Turn::Disable => {}
+        Turn::Sleep => {}
+        Turn::Wake => {}
     }
 }
 
@@ -74,21 +69,33 @@ fn bp_in(figures: Figures, b: u8) -> u8
     }
 }
 
+// The settings after a cycle of a kind whose transaction has `b` as its byte 1.
+fn settled_by(kind: Kind, figures: Figures, device: Device, b: u8) -> Device
+    ensures { λ r. ⌜ r ≡ settledBy kind figures device b ⌝ }
+{
+    match kind {
+        Kind::Settings => {
+            let bp = bp_in(figures, b);
+            device.settled(b >= 128, bp)
+        }
+        Kind::Page => device,
+        Kind::Sector => device,
+        Kind::All => device,
+    }
+}
+
 // The record after an executed instruction whose byte 1 is `b`.
-pub(crate) fn next_record(turn: Turn, device: Device, b: u8) -> Device
-    ensures { λ r. ⌜ r ≡ turned turn device b ⌝ }
+pub(crate) fn next_record(turn: Turn, figures: Figures, device: Device, b: u8) -> Device
+    ensures { λ r. ⌜ r ≡ turned turn figures device b ⌝ }
 {
     match turn {
         Turn::Keep => device,
         Turn::Enable => device.latched(true),
         Turn::Disable => device.latched(false),
-        Turn::Settings => {
-            let bp = bp_in(Figures::of(device.part), b);
-            device.settled(b >= 128, bp).running(device.write_status)
+        Turn::Start(kind) => {
+            let settled = settled_by(kind, figures, device, b);
+            settled.running(device.duration(kind))
         }
-        Turn::Program => device.running(device.program),
-        Turn::EraseSector => device.running(device.sector_erase),
-        Turn::EraseAll => device.running(device.bulk_erase),
         Turn::Sleep => device.moded(device.latch, Mode::Deep),
         Turn::Wake => device.moded(device.latch, Mode::Standby),
     }

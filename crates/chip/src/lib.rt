@@ -2,6 +2,7 @@
 ghost use mathlib.Core.Path.{_≡_};
 ghost use Prim.Native.Nat.{_≤_};
 ghost use lib.ListN.{length};
+ghost use Rattle.chip.specs.Table.{instructionIn};
 ghost use Rattle.chip.specs.Answers.{deliveryAnswer};
 ghost use Rattle.chip.specs.Outcome.{bare, outcomeOf, Meets, Transacted, Delivered};
 ghost use Rattle.chip.specs.declared.answers.Verdict.the-variants.{Executed};
@@ -16,6 +17,7 @@ use answers::Verdict;
 use device::Checked;
 use device::Device;
 use parts::Figures;
+use table::Instruction;
 
 // An answer: its number, the first driven position and the driven count.
 pub struct Answer {
@@ -42,21 +44,23 @@ fn bare(number: u8) -> Answer
 }
 
 // Executes a transaction: first the line, then the array, then the record.
-fn execute(device: Device, array: &mut [u8], sent: &[u8], response: &mut [u8]) -> Done
-    requires { ⌜ length (now sent) ≤ 65536 ⌝ }
+fn execute(
+    device: Device,
+    asked: Instruction,
+    array: &mut [u8],
+    sent: &[u8],
+    response: &mut [u8],
+) -> Done
+    requires { ⌜ (asked ≡ instructionIn device (now sent)) × (length (now sent) ≤ 65536) ⌝ }
     ensures { λ o. ⌜ Meets (outcomeOf Executed device (now (array .entry)) (now (sent .entry)) (now (response .entry))) (o .answer) (o .device) (now (array .exit)) (now (response .exit)) ⌝ }
 {
-    let figures = Figures::of(device.part);
-    let code = slices::byte_at(sent, 0);
-    let row = table::decode(figures, code);
-    let area = row.area;
+    let figures = asked.figures;
+    let row = asked.row;
     let turn = row.turn;
-    let span = line::respond(device, array, sent, response);
-    let at = table::address(figures, sent);
-    let cycle = change::cycle_of(area, at, sent);
-    change::complete(figures, cycle, array);
+    let span = line::respond(device, asked, array, sent, response);
+    change::carry_out(turn, figures, asked.address, sent, array);
     let b = slices::byte_at(sent, 1);
-    let next = change::next_record(turn, device, b);
+    let next = change::next_record(turn, figures, device, b);
     let answer = Answer {
         number: 0,
         first: span.first as u32,
@@ -79,7 +83,16 @@ pub fn transact(
 ) -> Done
     ensures { λ o. ⌜ Transacted device (now (array .entry)) (now (sent .entry)) pulses w (now (response .entry)) (o .answer) (o .device) (now (array .exit)) (now (response .exit)) ⌝ }
 {
-    let verdict = answers::judge(device, array.len(), sent, pulses, w, response.len());
+    let asked = table::read_instruction(device, sent);
+    let verdict = answers::judge(
+        device,
+        asked,
+        array.len(),
+        sent.len(),
+        pulses,
+        w,
+        response.len(),
+    );
     match verdict {
         Verdict::Refused(k) => {
             let answer = bare(k);
@@ -92,7 +105,7 @@ pub fn transact(
             return Done { answer, device };
         }
         Verdict::Executed => {
-            return execute(device, array, sent, response);
+            return execute(device, asked, array, sent, response);
         }
     }
 }

@@ -3,14 +3,15 @@ ghost use mathlib.Core.Path.{_≡_};
 ghost use Prim.Native.Nat.{_+_, _%_, _<_};
 ghost use lib.ListN.{length, getD};
 ghost use Rattle.slices.specs.Changed.{mapAt};
-ghost use Rattle.chip.specs.Line.{identification, kth, onLine, heard, heardRow, driven, drives, spanOf, fromOn, Responded};
+ghost use Rattle.chip.specs.Line.{identification, kth, onLine, heard, driven, drives, spanOf, fromOn, Responded};
+ghost use Rattle.chip.specs.Table.{onlyIf, instructionIn};
 ghost use Rattle.chip.specs.During.{during};
 use crate::answers::is_busy;
 use crate::answers::is_deep;
 use crate::table::Drive;
+use crate::table::Instruction;
 use crate::table::Row;
-use crate::table::address;
-use crate::table::decode;
+use crate::table::read_instruction;
 use device::Device;
 use parts::Figures;
 
@@ -80,23 +81,29 @@ fn is_heard(device: Device, row: Row) -> bool
 }
 
 // The row that the chip goes by: an instruction that is not taken at all is as an unknown one.
-fn row_heard(device: Device, sent: &[u8]) -> Row
-    ensures { λ r. ⌜ r ≡ heardRow device (now (sent .entry)) ⌝ }
+fn row_heard(device: Device, asked: Instruction) -> Row
+    ensures { λ r. ⌜ r ≡ onlyIf (heard device (asked .row)) (asked .row) ⌝ }
 {
-    let code = slices::byte_at(sent, 0);
-    let row = decode(Figures::of(device.part), code);
+    let row = asked.row;
     row.only_if(is_heard(device, row))
 }
 
 // The response line.
-pub(crate) fn respond(device: Device, array: &[u8], sent: &[u8], response: &mut [u8]) -> Span
+pub(crate) fn respond(
+    device: Device,
+    asked: Instruction,
+    array: &[u8],
+    sent: &[u8],
+    response: &mut [u8],
+) -> Span
+    requires { ⌜ asked ≡ instructionIn device (now sent) ⌝ }
     ensures { λ s. ⌜ Responded device (now (array .entry)) (now (sent .entry)) (now (response .entry)) s (now (response .exit)) ⌝ }
 {
-    let figures = Figures::of(device.part);
-    let row = row_heard(device, sent);
+    let figures = asked.figures;
+    let row = row_heard(device, asked);
     let how = row.drive;
     let s = span_of(how, row.from, sent.len());
-    let at = address(figures, sent) as usize;
+    let at = asked.address as usize;
     let n = slices::least(sent.len(), response.len());
     let start = slices::least(row.from, n);
     let zero = 0;
@@ -165,8 +172,9 @@ fn kth_byte(how: Drive, figures: Figures, status: u8, array: &[u8], at: usize, k
 pub fn driven_byte(device: Device, array: &[u8], before: &[u8]) -> During
     ensures { λ r. ⌜ r ≡ during (driven device (now (array .entry)) (now (before .entry))) ⌝ }
 {
-    let figures = Figures::of(device.part);
-    let row = row_heard(device, before);
+    let asked = read_instruction(device, before);
+    let figures = asked.figures;
+    let row = row_heard(device, asked);
     let from = row.from;
     let how = row.drive;
     if before.len() < from {
@@ -176,6 +184,6 @@ pub fn driven_byte(device: Device, array: &[u8], before: &[u8]) -> During
         };
     }
     let k = before.len() - from;
-    let at = address(figures, before) as usize;
+    let at = asked.address as usize;
     kth_byte(how, figures, device.status(), array, at, k)
 }

@@ -1,27 +1,20 @@
 // The instruction table: a row for each code, and the address in a transaction.
 ghost use mathlib.Core.Path.{_≡_};
-ghost use mathlib.Core.Bool.{cond};
 ghost use Prim.Native.Nat.{_+_, _*_};
-ghost use Rattle.chip.specs.Table.{order, reading, write, unknown, rowOf, addressOf};
+ghost use Rattle.chip.specs.Table.{order, reading, write, unknown, alsoBusy, alsoDeep, onlyIf, rowOf, addressOf, instructionIn};
+use device::Device;
+use device::cycle::Kind;
 use parts::Figures;
 
-// What an instruction changes of the array.
-pub enum Area {
-    Nowhere,
-    Page,
-    Sector,
-    All,
-}
+// The most bytes that a transaction has.
+pub(crate) const LONGEST: usize = 65_536;
 
-// What an instruction does to the record.
+// What an instruction does: keep the record, set or reset the latch, start a cycle, go to deep power-down, leave it.
 pub enum Turn {
     Keep,
     Enable,
     Disable,
-    Settings,
-    Program,
-    EraseSector,
-    EraseAll,
+    Start(Kind),
     Sleep,
     Wake,
 }
@@ -35,16 +28,15 @@ pub enum Drive {
     Signature,
 }
 
-// A row: what is needed (n from least to most, no further pulses, the latch), whether it is taken while busy and in deep power-down, what it changes, what it drives from which byte on.
+// A row: what is needed (n from least to most, no further pulses, the latch), whether it is taken while busy and in deep power-down, what it does, what it drives from which byte on.
 pub struct Row {
     pub known: bool,
     pub least: usize,
     pub most: usize,
-    pub still: bool,
+    pub no_pulses: bool,
     pub latch: bool,
     pub busy: bool,
     pub deep: bool,
-    pub area: Area,
     pub turn: Turn,
     pub drive: Drive,
     pub from: usize,
@@ -59,11 +51,10 @@ impl Row {
             known: true,
             least: 1,
             most: 1,
-            still: true,
+            no_pulses: true,
             latch: false,
             busy: false,
             deep: false,
-            area: Area::Nowhere,
             turn,
             drive: Drive::Nothing,
             from: 1,
@@ -71,38 +62,36 @@ impl Row {
     }
 
     // n from `least` on, further pulses allowed, driven from byte `from` on.
-    fn reading(least: usize, drive: Drive, from: usize, busy: bool, deep: bool, turn: Turn) -> Self
-        ensures { λ r. ⌜ r ≡ reading least drive from busy deep turn ⌝ }
+    fn reading(least: usize, drive: Drive, from: usize, turn: Turn) -> Self
+        ensures { λ r. ⌜ r ≡ reading least drive from turn ⌝ }
     {
         Row {
             known: true,
             least,
-            most: 65_536,
-            still: false,
+            most: LONGEST,
+            no_pulses: false,
             latch: false,
-            busy,
-            deep,
-            area: Area::Nowhere,
+            busy: false,
+            deep: false,
             turn,
             drive,
             from,
         }
     }
 
-    // n from `least` to `most`, no further pulses, the latch.
-    fn write(least: usize, most: usize, area: Area, turn: Turn) -> Self
-        ensures { λ r. ⌜ r ≡ write least most area turn ⌝ }
+    // n from `least` to `most`, no further pulses, the latch; it starts a cycle.
+    fn write(least: usize, most: usize, kind: Kind) -> Self
+        ensures { λ r. ⌜ r ≡ write least most kind ⌝ }
     {
         Row {
             known: true,
             least,
             most,
-            still: true,
+            no_pulses: true,
             latch: true,
             busy: false,
             deep: false,
-            area,
-            turn,
+            turn: Turn::Start(kind),
             drive: Drive::Nothing,
             from: 1,
         }
@@ -115,45 +104,60 @@ impl Row {
         Row {
             known: false,
             least: 1,
-            most: 65_536,
-            still: false,
+            most: LONGEST,
+            no_pulses: false,
             latch: false,
             busy: false,
             deep: false,
-            area: Area::Nowhere,
             turn: Turn::Keep,
             drive: Drive::Nothing,
             from: 1,
         }
     }
 
+    // The row, taken while busy too.
+    fn also_busy(mut self) -> Self
+        ensures { λ r. ⌜ r ≡ alsoBusy self ⌝ }
+    {
+        self.busy = true;
+        self
+    }
+
+    // The row, taken in deep power-down too.
+    fn also_deep(mut self) -> Self
+        ensures { λ r. ⌜ r ≡ alsoDeep self ⌝ }
+    {
+        self.deep = true;
+        self
+    }
+
     // The row where a test holds, else as for an unknown code.
     pub(crate) fn only_if(self, test: bool) -> Self
-        ensures { λ r. ⌜ r ≡ cond test self unknown ⌝ }
+        ensures { λ r. ⌜ r ≡ onlyIf test self ⌝ }
     {
         if test { self } else { Row::unknown() }
     }
 }
 
 // The row of a code.
-pub(crate) fn decode(figures: Figures, code: u8) -> Row
+fn decode(figures: Figures, code: u8) -> Row
     ensures { λ r. ⌜ r ≡ rowOf figures code ⌝ }
 {
     match code {
         0x06 => Row::order(Turn::Enable),
         0x04 => Row::order(Turn::Disable),
-        0x9F => Row::reading(1, Drive::Identification, 1, false, false, Turn::Keep),
-        0x05 => Row::reading(1, Drive::Status, 1, true, false, Turn::Keep),
-        0x01 => Row::write(2, 2, Area::Nowhere, Turn::Settings),
-        0x03 => Row::reading(4, Drive::Array, 4, false, false, Turn::Keep),
-        0x0B => Row::reading(5, Drive::Array, 5, false, false, Turn::Keep),
-        0x02 => Row::write(5, 65_536, Area::Page, Turn::Program),
-        0xD8 => Row::write(4, 4, Area::Sector, Turn::EraseSector),
-        0xC7 => Row::write(1, 1, Area::All, Turn::EraseAll),
+        0x9F => Row::reading(1, Drive::Identification, 1, Turn::Keep),
+        0x05 => Row::reading(1, Drive::Status, 1, Turn::Keep).also_busy(),
+        0x01 => Row::write(2, 2, Kind::Settings),
+        0x03 => Row::reading(4, Drive::Array, 4, Turn::Keep),
+        0x0B => Row::reading(5, Drive::Array, 5, Turn::Keep),
+        0x02 => Row::write(5, LONGEST, Kind::Page),
+        0xD8 => Row::write(4, 4, Kind::Sector),
+        0xC7 => Row::write(1, 1, Kind::All),
         0xB9 => Row::order(Turn::Sleep).only_if(figures.sleeps),
-        0xAB => Row::reading(1, Drive::Signature, 4, false, true, Turn::Wake).only_if(
-            figures.sleeps,
-        ),
+        0xAB => Row::reading(1, Drive::Signature, 4, Turn::Wake)
+            .also_deep()
+            .only_if(figures.sleeps),
         _ => Row::unknown(),
     }
 }
@@ -166,11 +170,33 @@ fn joined(high: u8, middle: u8, low: u8) -> usize
 }
 
 // The address in a transaction, within the part.
-pub(crate) fn address(figures: Figures, sent: &[u8]) -> u32
+fn address(figures: Figures, sent: &[u8]) -> u32
     ensures { λ r. ⌜ r ≡ addressOf figures (now (sent .entry)) ⌝ }
 {
     let high = slices::byte_at(sent, 1);
     let middle = slices::byte_at(sent, 2);
     let low = slices::byte_at(sent, 3);
     slices::rest(joined(high, middle, low), figures.bytes) as u32
+}
+
+// The instruction of a transaction: the part's figures, the row of its first byte, its address.
+pub struct Instruction {
+    pub figures: Figures,
+    pub row: Row,
+    pub address: u32,
+}
+
+// The instruction that is sent.
+pub(crate) fn read_instruction(device: Device, sent: &[u8]) -> Instruction
+    ensures { λ r. ⌜ r ≡ instructionIn device (now (sent .entry)) ⌝ }
+{
+    let figures = Figures::of(device.part);
+    let code = slices::byte_at(sent, 0);
+    let row = decode(figures, code);
+    let at = address(figures, sent);
+    Instruction {
+        figures,
+        row,
+        address: at,
+    }
 }

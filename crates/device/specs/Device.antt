@@ -1,7 +1,8 @@
 -- The device record of document 01: its changes, when it is sound, its status byte, and what the checked calls answer.
 use mathlib.Core.Bool.{Bool, true, false, cond, not, _&&_}
-use Prim.Native.Nat.{ℕ, zero, suc, _+_, _*_, _-_, _%_}
+use Prim.Native.Nat.{ℕ, _+_, _*_, _-_, _%_}
 use lib.Dec.{ltb, leb}
+pub use Rattle.slices.specs.Chosen.{onZero}
 use Rattle.parts.specs.Parts.{knownPart, figuresOf}
 use Rattle.device.specs.declared.Mode.{Mode}
 use Rattle.device.specs.declared.Mode.the-variants.{Standby, Busy, Deep}
@@ -84,11 +85,6 @@ busyBit Deep = 0
 -- the status byte: bit 7 SRWD, bits 4 to 2 BP (its three lowest bits, if it had more), bit 1 the latch, bit 0 set while busy
 unfoldable pub statusByte : Device → ℕ
 statusByte d = cond (d .srwd) 128 0 + 4 * (d .bp % 8) + cond (d .latch) 2 0 + busyBit (d .mode)
-
--- only an answer of 0 changes anything
-abbrev pub onZero : {A : Type 0} → ℕ → A → A → A
-onZero zero next kept = next
-onZero (suc k) next kept = kept
 
 -- 6 where the record is not sound, else 0
 unfoldable pub soundAnswer : Device → ℕ

@@ -2,6 +2,9 @@
 ghost use mathlib.Core.Path.{_≡_};
 ghost use Rattle.device.specs.Device.{latchAt, moded, latched, settled, running, waited, poweredUp, zeroRecord, delivered, bothSame, rangedOf, modeSound, sound, busyBit, statusByte, waitCall, powerUpCall};
 
+// What a cycle does, and how long it takes.
+pub mod cycle;
+
 // The 28 bytes that a record is packed in.
 pub mod packing;
 

@@ -6,51 +6,6 @@ use borrow.Author.Needs.{needs}
 use Rattle.chip.proofs.table.decode.Statement.{statement}
 use Rattle.chip.proofs.table.decode.Tie as tie
 
-order-requires : tie.Need-order-requires
-order-requires c κs = search needs
-
-order-requires-2 : tie.Need-order-requires-2
-order-requires-2 c κs = search needs
-
-reading-requires : tie.Need-reading-requires
-reading-requires c κs = search needs
-
-reading-requires-2 : tie.Need-reading-requires-2
-reading-requires-2 c κs = search needs
-
-write-requires : tie.Need-write-requires
-write-requires c κs = search needs
-
-reading-requires-3 : tie.Need-reading-requires-3
-reading-requires-3 c κs = search needs
-
-reading-requires-4 : tie.Need-reading-requires-4
-reading-requires-4 c κs = search needs
-
-write-requires-2 : tie.Need-write-requires-2
-write-requires-2 c κs = search needs
-
-write-requires-3 : tie.Need-write-requires-3
-write-requires-3 c κs = search needs
-
-write-requires-4 : tie.Need-write-requires-4
-write-requires-4 c κs = search needs
-
-order-requires-3 : tie.Need-order-requires-3
-order-requires-3 c κs = search needs
-
-only-if-requires : tie.Need-only-if-requires
-only-if-requires c κs = search needs
-
-reading-requires-5 : tie.Need-reading-requires-5
-reading-requires-5 c κs = search needs
-
-only-if-requires-2 : tie.Need-only-if-requires-2
-only-if-requires-2 c κs = search needs
-
-unknown-requires : tie.Need-unknown-requires
-unknown-requires c κs = search needs
-
 returns : tie.Need-returns
 unfolding rowOf
 returns c = c .order .ensures ∙ rw (c .before .match .keys1)
@@ -65,7 +20,7 @@ returns-3 c = c .reading .ensures ∙ rw (c .before .match .keys3)
 
 returns-4 : tie.Need-returns-4
 unfolding rowOf
-returns-4 c = c .reading2 .ensures ∙ rw (c .before .match .keys4)
+returns-4 c = c .also-busy .ensures ∙ rw (c .before .reading2 .ensures, c .before .before .match .keys4)
 
 returns-5 : tie.Need-returns-5
 unfolding rowOf
@@ -97,7 +52,7 @@ returns-11 c = c .only-if .ensures ∙ rw (c .before .order3 .ensures, c .before
 
 returns-12 : tie.Need-returns-12
 unfolding rowOf
-returns-12 c = c .only-if2 .ensures ∙ rw (c .before .reading5 .ensures, c .before .before .match .keys12)
+returns-12 c = c .only-if2 .ensures ∙ rw (c .before .also-deep .ensures, c .before .before .reading5 .ensures, c .before .before .before .match .keys12)
 
 returns-13 : tie.Need-returns-13
 unfolding rowOf
@@ -109,21 +64,23 @@ pub decode-spec : {M : Type 1} → statement M
 decode-spec =
     tie.close
     (tie.spec
-    order-requires
-    order-requires-2
-    reading-requires
-    reading-requires-2
-    write-requires
-    reading-requires-3
-    reading-requires-4
-    write-requires-2
-    write-requires-3
-    write-requires-4
-    order-requires-3
-    only-if-requires
-    reading-requires-5
-    only-if-requires-2
-    unknown-requires
+    (λ c κs. search needs)
+    (λ c κs. search needs)
+    (λ c κs. search needs)
+    (λ c κs. search needs)
+    (λ c κs. search needs)
+    (λ c κs. search needs)
+    (λ c κs. search needs)
+    (λ c κs. search needs)
+    (λ c κs. search needs)
+    (λ c κs. search needs)
+    (λ c κs. search needs)
+    (λ c κs. search needs)
+    (λ c κs. search needs)
+    (λ c κs. search needs)
+    (λ c κs. search needs)
+    (λ c κs. search needs)
+    (λ c κs. search needs)
     returns
     returns-2
     returns-3
