@@ -106,7 +106,8 @@ touched-byte Page f at slots i x h = cond-ind (λ (y : ℕ). y < 256) (eqb (i / 
 touched-byte Sector f at slots i x h = cond-ind (λ (y : ℕ). y < 256) (eqb (i / f .«sector_bytes») (at / f .«sector_bytes»)) (lit< tt) h
 touched-byte All f at slots i x h = lit< tt
 
-changed-byte : (t : Turn) (f : Figures) (at : ℕ) (sent : List ℕ) (i x : ℕ) → x < 256 → changed t f at sent i x < 256
+-- bytes stay bytes
+pub changed-byte : (t : Turn) (f : Figures) (at : ℕ) (sent : List ℕ) (i x : ℕ) → x < 256 → changed t f at sent i x < 256
 unfolding changed touched
 changed-byte t f at sent i x h =
     start-ind (λ (g : ℕ → ℕ → ℕ). g i x < 256) t (λ k. touched f (cycleOf k at sent)) asItWas

@@ -4,11 +4,12 @@ use mathlib.Core.Path.{_≡_, refl, sym, ap, _∙_}
 use mathlib.Core.Bool.{Bool, true, false, cond, _&&_, _||_, true≢false, false≢true}
 use mathlib.Core.List.{List, [], _∷_, _++_}
 use Prim.Native.Nat.{ℕ, _*_, _/_, _%_, _<_}
-use native.Mathlib.Nat.{div-div-eq-div-mul, lt-of-le-of-lt}
+use native.Mathlib.Nat.{div-div-eq-div-mul}
 use borrow.Author.Tests.{eqb-true, eq-eqb}
-use lib.Dec.{eqb, lit<}
+use lib.Dec.{eqb}
 use lib.ListN.{getD, drop}
-use lib.Bits.{bitAnd, and-le-l}
+use lib.Bits.{bitAnd}
+use Rattle.slices.proofs.Choices.{cond-ind}
 use Rattle.slices.proofs.Ands.{and-swap}
 use Rattle.memory.specs.Memory.{blank, latched, reached, landed, programmed, erased}
 use Rattle.memory.proofs.Laws.{programmed-byte}
@@ -16,24 +17,23 @@ use Rattle.parts.specs.declared.Figures.{Figures}
 use Rattle.parts.specs.Parts.{figuresOf}
 use Rattle.parts.proofs.Laws.{sane}
 use Rattle.device.specs.declared.Device.{Device}
-use Rattle.chip.specs.declared.table.Area.{Area}
-use Rattle.chip.specs.declared.table.Area.the-variants.{Nowhere, Page, Sector, All}
-use Rattle.chip.specs.declared.change.Cycle.{Cycle}
+use Rattle.device.specs.Cycles.{touched}
 use Rattle.chip.specs.Table.{rowOf, addressOf}
-use Rattle.chip.specs.Change.{cycleOf, touched, touchedIn}
+use Rattle.chip.specs.Change.{cycleOf, changed, asItWas}
+use Rattle.chip.proofs.Rules.{changed-byte}
 use Rattle.jobs.specs.Jobs.{Job, Ran, isProgram, isErase, code, WellFormed, AllFormed}
 use Rattle.jobs.specs.Formula.{over, erasedBy, reaches, byteFor, programmedBy, everErased, afterLastErase, programmedBytes, ands, endsAs}
 use Rattle.jobs.specs.Swap.{names, MaySwap, bothPrograms, bothErases, differentSectors}
-use Rattle.jobs.proofs.Steps.{codes-ind, idle, own, number, effect}
+use Rattle.jobs.proofs.Steps.{codes-ind, own, number, effect}
 
 -- ---- a program ands, an erase fills, and each only where the byte lies in a sector that it names
 
 -- what the bytes sent under a code do at place i
 pub data Acts (f : Figures) (c : ℕ) (sent : List ℕ) (i : ℕ) : Type 0 where
   andsIn : eqb c 0x02 ≡ true → (p : Bool) (v : ℕ) → (p ≡ true → eqb c 0xC7 || eqb (addressOf f sent / f .«sector_bytes») (i / f .«sector_bytes») ≡ true)
-      → ((x : ℕ) → touched f (cycleOf (rowOf f c .area) (addressOf f sent) sent) i x ≡ cond p (bitAnd x v) x) → Acts f c sent i
+      → ((x : ℕ) → changed (rowOf f c .turn) f (addressOf f sent) sent i x ≡ cond p (bitAnd x v) x) → Acts f c sent i
   fillsIn : eqb c 0xD8 || eqb c 0xC7 ≡ true → (q : Bool) → (q ≡ true → eqb c 0xC7 || eqb (addressOf f sent / f .«sector_bytes») (i / f .«sector_bytes») ≡ true)
-      → ((x : ℕ) → touched f (cycleOf (rowOf f c .area) (addressOf f sent) sent) i x ≡ cond q 255 x) → Acts f c sent i
+      → ((x : ℕ) → changed (rowOf f c .turn) f (addressOf f sent) sent i x ≡ cond q 255 x) → Acts f c sent i
 
 -- a page lies within one sector
 in-sector : (k ss i a : ℕ) → ss ≡ 256 * k → i / 256 ≡ a / 256 → i / ss ≡ a / ss
@@ -41,7 +41,7 @@ in-sector k ss i a e h =
     ap (λ (m : ℕ). i / m) e ∙ sym (div-div-eq-div-mul i 256 k) ∙ ap (λ (m : ℕ). m / k) h ∙ div-div-eq-div-mul a 256 k ∙ ap (λ (m : ℕ). a / m) (sym e)
 
 acts : (f : Figures) (k : ℕ) → f .«sector_bytes» ≡ 256 * k → (sent : List ℕ) (i c : ℕ) → eqb c 0x02 || (eqb c 0xD8 || eqb c 0xC7) ≡ true → Acts f c sent i
-unfolding rowOf cycleOf touched programmed erased
+unfolding rowOf changed cycleOf touched programmed erased
 acts f k e sent i =
     codes-ind (λ (c : ℕ). Acts f c sent i)
     (andsIn refl (eqb (i / 256) (addressOf f sent / 256)) (getD (latched blank (addressOf f sent) (drop 4 sent)) (i % 256) 0)
@@ -93,26 +93,25 @@ abbrev Commute : (ℕ → ℕ) → (ℕ → ℕ) → Type 0
 Commute g h = (x : ℕ) → h (g x) ≡ g (h x)
 
 own-commute : (f : Figures) (i : ℕ) (a b : Job) → MaySwap f a b → Acts f (code a) (a .sent) i → Acts f (code b) (b .sent) i
-    → Commute (touched f (own f (a .sent)) i) (touched f (own f (b .sent)) i)
-own-commute f i a b m (andsIn pa p v np ga) (andsIn pb q w nq gb) = λ x. rw (gb (touched f (own f (a .sent)) i x), ga x, ga (touched f (own f (b .sent)) i x), gb x) (two-programs p q x v w)
+    → Commute (own f (a .sent) i) (own f (b .sent) i)
+own-commute f i a b m (andsIn pa p v np ga) (andsIn pb q w nq gb) = λ x. rw (gb (own f (a .sent) i x), ga x, ga (own f (b .sent) i x), gb x) (two-programs p q x v w)
 own-commute f i a b m (andsIn pa p v np ga) (fillsIn eb q nq gb) =
-    λ x. rw (gb (touched f (own f (a .sent)) i x), ga x, ga (touched f (own f (b .sent)) i x), gb x) (apart p q x v (λ y z. program-erase f a b m pa eb (i / f .«sector_bytes») (np y) (nq z)))
+    λ x. rw (gb (own f (a .sent) i x), ga x, ga (own f (b .sent) i x), gb x) (apart p q x v (λ y z. program-erase f a b m pa eb (i / f .«sector_bytes») (np y) (nq z)))
 own-commute f i a b m (fillsIn ea p np ga) (andsIn pb q w nq gb) =
-    λ x. rw (gb (touched f (own f (a .sent)) i x), ga x, ga (touched f (own f (b .sent)) i x), gb x) (sym (apart q p x w (λ z y. erase-program f a b m ea pb (i / f .«sector_bytes») (np y) (nq z))))
-own-commute f i a b m (fillsIn ea p np ga) (fillsIn eb q nq gb) = λ x. rw (gb (touched f (own f (a .sent)) i x), ga x, ga (touched f (own f (b .sent)) i x), gb x) (two-erases p q x)
+    λ x. rw (gb (own f (a .sent) i x), ga x, ga (own f (b .sent) i x), gb x) (sym (apart q p x w (λ z y. erase-program f a b m ea pb (i / f .«sector_bytes») (np y) (nq z))))
+own-commute f i a b m (fillsIn ea p np ga) (fillsIn eb q nq gb) = λ x. rw (gb (own f (a .sent) i x), ga x, ga (own f (b .sent) i x), gb x) (two-erases p q x)
 
 -- executed or not
-maybe-commute : (f : Figures) (i : ℕ) (s t : Bool) (a b : Cycle) → Commute (touched f a i) (touched f b i) → Commute (touched f (cond s a idle) i) (touched f (cond t b idle) i)
-unfolding cycleOf touched
-maybe-commute f i true true a b h = h
-maybe-commute f i true false a b h = λ x. refl
-maybe-commute f i false true a b h = λ x. refl
-maybe-commute f i false false a b h = λ x. refl
+maybe-commute : (i : ℕ) (s t : Bool) (a b : ℕ → ℕ → ℕ) → Commute (a i) (b i) → Commute (cond s a asItWas i) (cond t b asItWas i)
+maybe-commute i true true a b h = h
+maybe-commute i true false a b h = λ x. refl
+maybe-commute i false true a b h = λ x. refl
+maybe-commute i false false a b h = λ x. refl
 
 -- two jobs that may change places
 pub effects-commute : (d : Device) (a b : Job) → WellFormed a → WellFormed b → MaySwap (figuresOf (d .part)) a b → (i : ℕ) → Commute (effect d a i) (effect d b i)
 effects-commute d a b wa wb m i =
-    maybe-commute (figuresOf (d .part)) i (eqb (number d a) 0) (eqb (number d b) 0) (own (figuresOf (d .part)) (a .sent)) (own (figuresOf (d .part)) (b .sent))
+    maybe-commute i (eqb (number d a) 0) (eqb (number d b) 0) (own (figuresOf (d .part)) (a .sent)) (own (figuresOf (d .part)) (b .sent))
     (own-commute (figuresOf (d .part)) i a b m (at a wa) (at b wb))
   where
     at : (j : Job) → WellFormed j → Acts (figuresOf (d .part)) (code j) (j .sent) i
@@ -136,15 +135,15 @@ one-program false x s = refl
 
 -- one job: FF where it is an executed erase over the byte, else the byte anded with that of an executed program that reached it
 touched-own : (f : Figures) (sent : List ℕ) (i x : ℕ) → x < 256 → (c : ℕ) → eqb c 0x02 || (eqb c 0xD8 || eqb c 0xC7) ≡ true
-    → touched f (cycleOf (rowOf f c .area) (addressOf f sent) sent) i x
+    → changed (rowOf f c .turn) f (addressOf f sent) sent i x
     ≡ cond (eqb c 0xC7 || (eqb c 0xD8 && eqb (i / f .«sector_bytes») (addressOf f sent / f .«sector_bytes»))) 0xFF
     (ands x
     (cond (eqb c 0x02 && (eqb (i / 256) (addressOf f sent / 256) && reached (addressOf f sent) (drop 4 sent) (i % 256))) (landed (addressOf f sent) (drop 4 sent) (i % 256) 255 ∷ []) []))
-unfolding rowOf cycleOf touched erased
+unfolding rowOf changed cycleOf touched erased
 touched-own f sent i x lt =
     codes-ind
     (λ (c : ℕ).
-    touched f (cycleOf (rowOf f c .area) (addressOf f sent) sent) i x
+    changed (rowOf f c .turn) f (addressOf f sent) sent i x
     ≡ cond (eqb c 0xC7 || (eqb c 0xD8 && eqb (i / f .«sector_bytes») (addressOf f sent / f .«sector_bytes»))) 0xFF
     (ands x
     (cond (eqb c 0x02 && (eqb (i / 256) (addressOf f sent / 256) && reached (addressOf f sent) (drop 4 sent) (i % 256))) (landed (addressOf f sent) (drop 4 sent) (i % 256) 255 ∷ []) [])))
@@ -153,25 +152,14 @@ touched-own f sent i x lt =
     refl refl
 
 touched-if : (f : Figures) (t : Bool) (j : Job) → WellFormed j → (i x : ℕ) → x < 256
-    → touched f (cond t (own f (j .sent)) idle) i x ≡ cond (t && over f i j) 0xFF (ands x (cond (t && reaches f i j) (byteFor f i j ∷ []) []))
-unfolding touched cycleOf
+    → cond t (own f (j .sent)) asItWas i x ≡ cond (t && over f i j) 0xFF (ands x (cond (t && reaches f i j) (byteFor f i j ∷ []) []))
 touched-if f true j w i x lt = touched-own f (j .sent) i x lt (code j) (w .kind)
 touched-if f false j w i x lt = refl
 
-cond-lt : (t : Bool) (a b : ℕ) → a < 256 → b < 256 → cond t a b < 256
-cond-lt true a b ha hb = ha
-cond-lt false a b ha hb = hb
-
 -- bytes stay bytes
-pub touched-lt : (f : Figures) (c : Cycle) (i x : ℕ) → x < 256 → touched f c i x < 256
-unfolding touched programmed erased
-touched-lt f c i x lt = go (c .area)
-  where
-    go : (a : Area) → touchedIn a f (c .at) (c .slots) i x < 256
-    go Nowhere = lt
-    go Page = cond-lt (eqb (i / 256) (c .at / 256)) _ x (lt-of-le-of-lt (and-le-l x (getD (c .slots) (i % 256) 0)) lt) lt
-    go Sector = cond-lt (eqb (i / f .«sector_bytes») (c .at / f .«sector_bytes»)) 255 x (lit< tt) lt
-    go All = lit< tt
+pub effect-byte : (d : Device) (j : Job) (i x : ℕ) → x < 256 → effect d j i x < 256
+effect-byte d j i x lt =
+    cond-ind (λ (g : ℕ → ℕ → ℕ). g i x < 256) (eqb (number d j) 0) (changed-byte (rowOf (figuresOf (d .part)) (code j) .turn) (figuresOf (d .part)) (addressOf (figuresOf (d .part)) (j .sent)) (j .sent) i x lt) lt
 
 ands-append : (x : ℕ) (bs cs : List ℕ) → ands x (bs ++ cs) ≡ ands (ands x bs) cs
 ands-append x [] cs = refl
@@ -204,7 +192,7 @@ one-more f i r rs x false false s =
 pub ends : (d : Device) (i : ℕ) (js : List Job) → AllFormed js → (x : ℕ) → x < 256 → through d js i x ≡ endsAs (figuresOf (d .part)) i (rans d js) x
 ends d i [] w x lt = refl
 ends d i (j ∷ js) w x lt =
-    ends d i js (w .1) (effect d j i x) (touched-lt (figuresOf (d .part)) (cond (eqb (number d j) 0) (own (figuresOf (d .part)) (j .sent)) idle) i x lt)
+    ends d i js (w .1) (effect d j i x) (effect-byte d j i x lt)
     ∙ ap (endsAs (figuresOf (d .part)) i (rans d js)) (touched-if (figuresOf (d .part)) (eqb (number d j) 0) j (w .0) i x lt)
     ∙ one-more (figuresOf (d .part)) i (record { job = j; number = number d j }) (rans d js) x (everErased (figuresOf (d .part)) i (rans d js))
     (erasedBy (figuresOf (d .part)) i (record { job = j; number = number d j })) (all-after (figuresOf (d .part)) i (rans d js))

@@ -2,25 +2,24 @@
 -- Assumes nothing.
 use mathlib.Core.Path.{_≡_, refl, sym, ap, ap₂, _∙_, subst}
 use mathlib.Core.Logic.{inl, inr}
-use mathlib.Core.Bool.{Bool, true, false, cond, not, _&&_, _||_, false≢true}
+use mathlib.Core.Bool.{Bool, true, false, cond, not, _||_, false≢true}
 use mathlib.Core.List.{List, [], _∷_}
 use Prim.Native.Nat.{ℕ, _≤_}
 use native.Mathlib.Omega.{arith}
 use borrow.Author.Tests.{eqb-true, eq-eqb, le-ltb}
-use lib.Dec.{eqb, leb, ltb, eqb·suc-zero}
+use lib.Dec.{eqb, ltb, eqb·suc-zero}
 use lib.ListN.{length, getD}
 use Rattle.slices.specs.Changed.{mapAt}
 use Rattle.slices.proofs.Maps.{map-same, length-map}
 use Rattle.parts.specs.declared.Figures.{Figures}
-use Rattle.parts.specs.Parts.{figuresOf, knownPart}
+use Rattle.parts.specs.Parts.{figuresOf}
 use Rattle.device.specs.declared.Mode.the-variants.{Standby}
 use Rattle.device.specs.declared.Device.{Device}
-use Rattle.device.specs.Device.{sound, rangedOf, bothSame, modeSound, latchAt, moded, latched, running, waited, soundAnswer, waitCall}
-use Rattle.chip.specs.declared.table.Area.the-variants.{Nowhere}
-use Rattle.chip.specs.declared.change.Cycle.{Cycle}
-use Rattle.chip.specs.Table.{rowOf, addressOf}
-use Rattle.chip.specs.Answers.{refusal, ignorance, asNeeded, inProtected, decided, rowIn, verdictOf}
-use Rattle.chip.specs.Change.{cycleOf, touched, turned}
+use Rattle.device.specs.Device.{sound, rangedOf, moded, latched, running, waited, soundAnswer, waitCall}
+use Rattle.device.proofs.Sound.{sound-has, standby-sound, running-sound}
+use Rattle.chip.specs.Table.{rowOf, addressOf, rowIn}
+use Rattle.chip.specs.Answers.{refusal, ignorance, asNeeded, inProtected, decided, verdictOf}
+use Rattle.chip.specs.Change.{changed, asItWas, turned}
 use Rattle.chip.specs.Outcome.{Outcome, outcomeOf, transacted}
 use Rattle.jobs.specs.Jobs.{Job, Chip, longestCycle, enabled, carriedOut, rested, disabled, after, answered, code, WellFormed, ExecutedOr15Or17}
 
@@ -34,55 +33,8 @@ chip d xs = record { device = d; array = xs }
 
 -- ---- soundness
 
--- both tests hold
-pub both : (a b : Bool) → a && b ≡ true → (a ≡ true) × (b ≡ true)
-both true b h = (refl, h)
-both false b h = absurd (false≢true h)
-
--- what soundness asks of all but the mode
-abbrev kept : Device → Bool
-kept d =
-    knownPart (d .part) && leb (d .bp) (figuresOf (d .part) .«highest_bp») && rangedOf (d .program) && rangedOf (d .«sector_erase») && rangedOf (d .«bulk_erase»)
-    && rangedOf (d .«write_status»)
-
-kept-true : (d : Device) → sound d ≡ true → kept d ≡ true
-unfolding sound
-kept-true d s = both (kept d) (modeSound (d .mode) (d .latch) (figuresOf (d .part) .sleeps)) s .0
-
 pub rest-sound : (d : Device) (l : Bool) → sound d ≡ true → sound (resting d l) ≡ true
-unfolding sound moded
-rest-sound d l s = rw (kept-true d s)
-
--- whether both are the same, of one thing
-same-self : (b : Bool) → bothSame b b ≡ true
-same-self true = refl
-same-self false = refl
-
-run-sound : (d : Device) (t : ℕ) → sound d ≡ true → rangedOf t ≡ true → sound (running d t) ≡ true
-unfolding sound moded running
-run-sound d t s r = rw (kept-true d s, r) (same-self (latchAt t))
-
--- the durations of the cycles that a job can start are in range
-module _ (d : Device) (s : sound d ≡ true) where
-  durations : rangedOf (d .program) && rangedOf (d .«sector_erase») && rangedOf (d .«bulk_erase») ≡ true
-  durations = go (knownPart (d .part)) (leb (d .bp) (figuresOf (d .part) .«highest_bp»)) (rangedOf (d .program)) (rangedOf (d .«sector_erase»)) (rangedOf (d .«bulk_erase»)) (rangedOf (d .«write_status»)) (kept-true d s)
-    where
-      go : (a b p q r w : Bool) → a && b && p && q && r && w ≡ true → p && q && r ≡ true
-      go true true p q r w h = both (p && q && r) w h .0
-      go true false p q r w h = absurd (false≢true h)
-      go false b p q r w h = absurd (false≢true h)
-
-  shorter : rangedOf (d .program) && rangedOf (d .«sector_erase») ≡ true
-  shorter = both (rangedOf (d .program) && rangedOf (d .«sector_erase»)) (rangedOf (d .«bulk_erase»)) durations .0
-
-  program-ranged : rangedOf (d .program) ≡ true
-  program-ranged = both (rangedOf (d .program)) (rangedOf (d .«sector_erase»)) shorter .0
-
-  sector-ranged : rangedOf (d .«sector_erase») ≡ true
-  sector-ranged = both (rangedOf (d .program)) (rangedOf (d .«sector_erase»)) shorter .1
-
-  bulk-ranged : rangedOf (d .«bulk_erase») ≡ true
-  bulk-ranged = both (rangedOf (d .program) && rangedOf (d .«sector_erase»)) (rangedOf (d .«bulk_erase»)) durations .1
+rest-sound d l s = standby-sound d l s
 
 -- ---- a call that no host-side number answers
 
@@ -91,13 +43,9 @@ pub no-refusal : (d : Device) (len n p r : ℕ) → sound d ≡ true → len ≡
 unfolding refusal
 no-refusal d len n p r s e a b c = rw (s, eq-eqb len (figuresOf (d .part) .bytes) e, le-ltb 65536 n a, le-ltb 7 p b, le-ltb r n c)
 
--- the cycle of no instruction
-abbrev pub idle : Cycle
-idle = cycleOf Nowhere 0 []
-
--- the cycle that the bytes start where they are executed
-abbrev pub own : Figures → List ℕ → Cycle
-own f sent = cycleOf (rowOf f (getD sent 0 0) .area) (addressOf f sent) sent
+-- what the bytes do to each byte of the array where they are executed
+abbrev pub own : Figures → List ℕ → ℕ → ℕ → ℕ
+own f sent = changed (rowOf f (getD sent 0 0) .turn) f (addressOf f sent) sent
 
 -- what the chip's number k decides: the answer, each byte, the record
 module _ (d : Device) (xs sent r : List ℕ) (k : ℕ) where
@@ -109,19 +57,19 @@ module _ (d : Device) (xs sent r : List ℕ) (k : ℕ) where
       go true e = rw e (sym (eqb-true k 0 e))
       go false e = rw e
 
-  pub array-is : outcomeOf (decided 0 k) d xs sent r .array ≡ mapAt (touched (figuresOf (d .part)) (cond (eqb k 0) (own (figuresOf (d .part)) sent) idle)) xs
-  unfolding outcomeOf decided touched cycleOf
+  pub array-is : outcomeOf (decided 0 k) d xs sent r .array ≡ mapAt (cond (eqb k 0) (own (figuresOf (d .part)) sent) asItWas) xs
+  unfolding outcomeOf decided
   array-is = go (eqb k 0) refl
     where
-      go : (b : Bool) → eqb k 0 ≡ b → outcomeOf (decided 0 k) d xs sent r .array ≡ mapAt (touched (figuresOf (d .part)) (cond (eqb k 0) (own (figuresOf (d .part)) sent) idle)) xs
+      go : (b : Bool) → eqb k 0 ≡ b → outcomeOf (decided 0 k) d xs sent r .array ≡ mapAt (cond (eqb k 0) (own (figuresOf (d .part)) sent) asItWas) xs
       go true e = rw e
       go false e = rw e (sym (map-same xs))
 
-  pub device-is : outcomeOf (decided 0 k) d xs sent r .device ≡ cond (eqb k 0) (turned (rowIn d sent .turn) d (getD sent 1 0)) d
+  pub device-is : outcomeOf (decided 0 k) d xs sent r .device ≡ cond (eqb k 0) (turned (rowIn d sent .turn) (figuresOf (d .part)) d (getD sent 1 0)) d
   unfolding outcomeOf decided
   device-is = go (eqb k 0) refl
     where
-      go : (b : Bool) → eqb k 0 ≡ b → outcomeOf (decided 0 k) d xs sent r .device ≡ cond (eqb k 0) (turned (rowIn d sent .turn) d (getD sent 1 0)) d
+      go : (b : Bool) → eqb k 0 ≡ b → outcomeOf (decided 0 k) d xs sent r .device ≡ cond (eqb k 0) (turned (rowIn d sent .turn) (figuresOf (d .part)) d (getD sent 1 0)) d
       go true e = rw e
       go false e = rw e
 
@@ -145,11 +93,11 @@ codes-ind P p q r c h = go (eqb c 0x02) refl (eqb c 0xD8) refl (eqb c 0xC7) refl
 
 -- the record after an executed program or erase is busy, and not for longer than the longest cycle
 turned-cases : (d : Device) → sound d ≡ true → (P : Device → Type 0) → ((t : ℕ) → rangedOf t ≡ true → t ≤ longestCycle d → P (running (resting d true) t))
-    → (b c : ℕ) → eqb c 0x02 || (eqb c 0xD8 || eqb c 0xC7) ≡ true → P (turned (rowOf (figuresOf (d .part)) c .turn) (resting d true) b)
+    → (b c : ℕ) → eqb c 0x02 || (eqb c 0xD8 || eqb c 0xC7) ≡ true → P (turned (rowOf (figuresOf (d .part)) c .turn) (figuresOf (d .part)) (resting d true) b)
 unfolding rowOf turned moded
 turned-cases d s P h b =
-    codes-ind (λ (c : ℕ). P (turned (rowOf (figuresOf (d .part)) c .turn) (resting d true) b)) (h (d .program) (program-ranged d s) (omega arith))
-    (h (d .«sector_erase») (sector-ranged d s) (omega arith)) (h (d .«bulk_erase») (bulk-ranged d s) (omega arith))
+    codes-ind (λ (c : ℕ). P (turned (rowOf (figuresOf (d .part)) c .turn) (figuresOf (d .part)) (resting d true) b)) (h (d .program) (sound-has d s .program-fits) (omega arith))
+    (h (d .«sector_erase») (sound-has d s .sector-fits) (omega arith)) (h (d .«bulk_erase») (sound-has d s .bulk-fits) (omega arith))
 
 -- ---- write enable and write disable, from standby
 
@@ -171,7 +119,7 @@ module _ (d : Device) (s : sound d ≡ true) (xs : List ℕ) (z : length xs ≡ 
   wren-device = ap (λ (o : Outcome). o .device) wren-goes
 
   pub wren-array : transacted (resting d l) xs (0x06 ∷ []) 0 w r .array ≡ xs
-  unfolding outcomeOf decided touched cycleOf rowOf
+  unfolding outcomeOf decided changed rowOf
   wren-array = ap (λ (o : Outcome). o .array) wren-goes ∙ map-same xs
 
   pub wren-number : transacted (resting d l) xs (0x06 ∷ []) 0 w r .answer .number ≡ 0
@@ -183,7 +131,7 @@ module _ (d : Device) (s : sound d ≡ true) (xs : List ℕ) (z : length xs ≡ 
   wrdi-device = ap (λ (o : Outcome). o .device) wrdi-goes
 
   pub wrdi-array : transacted (resting d l) xs (0x04 ∷ []) 0 w r .array ≡ xs
-  unfolding outcomeOf decided touched cycleOf rowOf
+  unfolding outcomeOf decided changed rowOf
   wrdi-array = ap (λ (o : Outcome). o .array) wrdi-goes ∙ map-same xs
 
   pub wrdi-number : transacted (resting d l) xs (0x04 ∷ []) 0 w r .answer .number ≡ 0
@@ -203,7 +151,7 @@ still-waits d s = (rw (rest-sound d true s), (true, rw (rest-sound d true s)))
 busy-waits : (d : Device) → sound d ≡ true → (t : ℕ) → rangedOf t ≡ true → t ≤ longestCycle d → Waits d (running (resting d true) t)
 unfolding waitCall soundAnswer waited running moded
 busy-waits d s t r h =
-    let k = run-sound (resting d true) t (rest-sound d true s) r in
+    let k = running-sound (resting d true) t (rest-sound d true s) r in
     (rw k, (false, rw (k, le-ltb (longestCycle d) t h)))
 
 -- ---- the four calls of a job, from standby
@@ -214,7 +162,7 @@ number d j = ignorance (resting d true) (rowIn d (j .sent)) (length (j .sent)) (
 
 -- what a job does to each byte: what its program or erase does where the answer is 0, nothing where not
 abbrev pub effect : Device → Job → ℕ → ℕ → ℕ
-effect d j = touched (figuresOf (d .part)) (cond (eqb (number d j) 0) (own (figuresOf (d .part)) (j .sent)) idle)
+effect d j = cond (eqb (number d j) 0) (own (figuresOf (d .part)) (j .sent)) asItWas
 
 module _ (d : Device) (s : sound d ≡ true) (xs : List ℕ) (z : length xs ≡ figuresOf (d .part) .bytes) (l : Bool) (j : Job) (f : WellFormed j) where
   -- call 1
@@ -245,7 +193,7 @@ module _ (d : Device) (s : sound d ≡ true) (xs : List ℕ) (z : length xs ≡ 
   unfolding moded
   carried-array = ap (λ (o : Outcome). o .array) carried ∙ array-is (resting d true) xs (j .sent) (j .response₂) (number d j)
 
-  carried-device : carriedOut j (chip (resting d l) xs) .device ≡ cond (eqb (number d j) 0) (turned (rowIn d (j .sent) .turn) (resting d true) (getD (j .sent) 1 0)) (resting d true)
+  carried-device : carriedOut j (chip (resting d l) xs) .device ≡ cond (eqb (number d j) 0) (turned (rowIn d (j .sent) .turn) (figuresOf (d .part)) (resting d true) (getD (j .sent) 1 0)) (resting d true)
   unfolding moded
   carried-device = ap (λ (o : Outcome). o .device) carried ∙ device-is (resting d true) xs (j .sent) (j .response₂) (number d j)
 
@@ -253,7 +201,7 @@ module _ (d : Device) (s : sound d ≡ true) (xs : List ℕ) (z : length xs ≡ 
   carried-waits : Waits d (carriedOut j (chip (resting d l) xs) .device)
   carried-waits =
       subst (Waits d) (sym carried-device)
-      (go (turned (rowIn d (j .sent) .turn) (resting d true) (getD (j .sent) 1 0)) (eqb (number d j) 0)
+      (go (turned (rowIn d (j .sent) .turn) (figuresOf (d .part)) (resting d true) (getD (j .sent) 1 0)) (eqb (number d j) 0)
       (turned-cases d s (Waits d) (busy-waits d s) (getD (j .sent) 1 0) (code j) (f .kind)))
     where
       go : (e : Device) (b : Bool) → Waits d e → Waits d (cond b e (resting d true))

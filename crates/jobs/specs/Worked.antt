@@ -15,7 +15,8 @@ use Rattle.device.specs.declared.Mode.the-variants.{Standby}
 use Rattle.device.specs.Device.{sound, latchAt, moded, latched, running, waited, soundAnswer, waitCall}
 use Rattle.chip.specs.Table.{rowOf, addressOf}
 use Rattle.chip.specs.Answers.{refusal, ignorance, asNeeded, inProtected, decided, verdictOf}
-use Rattle.chip.specs.Change.{cycleOf, touched, turned}
+use Rattle.device.specs.Cycles.{touched}
+use Rattle.chip.specs.Change.{cycleOf, changed, turned}
 use Rattle.chip.specs.Outcome.{outcomeOf, transacted}
 use Rattle.jobs.specs.Jobs.{Job, Chip, Ran, enabled, carriedOut, rested, disabled, run, history, isProgram, isErase, isBulkErase, AtRest, WellFormed, AllFormed}
 use Rattle.jobs.specs.Formula.{afterLastErase, programmedBytes, endsAs}
@@ -104,6 +105,6 @@ pub record Shown : Type 0 where
 
 -- computed by the checker
 pub shown : Shown
-unfolding enabled carriedOut rested disabled transacted outcomeOf verdictOf decided refusal ignorance rowOf addressOf asNeeded inProtected protectedOf columnOf uncelled cycleOf touched turned running moded latched waited waitCall soundAnswer sound latchAt figuresOf mapAt programmed erased blank memory.latched reached landed
+unfolding enabled carriedOut rested disabled transacted outcomeOf verdictOf decided refusal ignorance rowOf addressOf asNeeded inProtected protectedOf columnOf uncelled cycleOf touched changed turned running moded latched waited waitCall soundAnswer sound latchAt figuresOf mapAt programmed erased blank memory.latched reached landed
 shown =
     record { erase-last = refl; erase-first = refl; answers = refl; anded = refl; protects = refl; erases = refl; keeps = refl; anew = refl; later = refl; formula = refl; formula-first = refl }

@@ -8,18 +8,19 @@ use native.Mathlib.Omega.{arith}
 use borrow.Author.Tests.{eq-eqb, ne-eqb, eqb-true}
 use lib.Dec.{eqb}
 use lib.ListN.{length}
-use Rattle.slices.proofs.Choices.{both}
+use Rattle.slices.specs.Changed.{mapAt, put}
+use Rattle.slices.proofs.Choices.{both, past, other}
 use Rattle.parts.specs.Parts.{figuresOf, knownPart}
 use Rattle.device.specs.declared.Device.{Device}
 use Rattle.device.specs.declared.Checked.{Checked}
-use Rattle.device.specs.Device.{onZero, sound, rangedOf, waited, waitCall, poweredUp, powerUpCall, soundAnswer, delivered}
+use Rattle.device.specs.Device.{onZero, sound, rangedOf, waited, waitCall, poweredUp, powerUpCall, soundAnswer, zeroRecord, delivered}
 use Rattle.device.specs.Packing.{packOf, packAnswer, Packed, unpackAnswer, unpackOf}
 use Rattle.device.proofs.Sound.{delivered-sound}
 use Rattle.device.proofs.Inverse.{opened}
 use Rattle.chip.specs.declared.Answer.{Answer}
 use Rattle.chip.specs.declared.answers.Verdict.the-variants.{Refused}
 use Rattle.chip.specs.Answers.{deliveryAnswer}
-use Rattle.chip.specs.Outcome.{Outcome, bare, outcomeOf, transacted, Meets, Delivered, recordBy, arrayBy}
+use Rattle.chip.specs.Outcome.{Outcome, bare, outcomeOf, transacted, Meets, Delivered}
 use Rattle.chip.proofs.Records.{wait-sound, power-up-sound}
 use Rattle.chip.proofs.Rules.{stays-sound}
 use Rattle.m25p.specs.Calls.{packedAnswer, high, packedBy, transactedC, Called, checkedC, CalledOn, deliveryC, DeliveredC}
@@ -130,7 +131,7 @@ delivers packed part array p s b t {r} {packed′} {array′} {c} l d e q =
     record {
       answer = e ∙ ap (λ (k : ℕ). packedAnswer (bare k)) z;
       bytes = q ∙ ap (λ (k : ℕ). packedBy k (delivered part p s b t) packed) z;
-      memory = d .memory ∙ ap (λ (k : ℕ). arrayBy k array) (sym y);
+      memory = d .memory ∙ ap (λ (k : ℕ). onZero k (mapAt (put 255) array) array) (sym y);
     }
 
 -- an executed delivery gives the record as delivered, which is sound
@@ -138,7 +139,7 @@ pub as-delivered : (part : ℕ) (array : List ℕ) (p s b t : ℕ) {c : Checked}
 unfolding deliveryAnswer
 as-delivered part array p s b t {c} d z =
     let y : deliveryAnswer part (length array) p s b t ≡ 0 = sym (d .answer) ∙ z in
-    let e : c .device ≡ delivered part p s b t = d .device ∙ ap (λ (k : ℕ). recordBy k (delivered part p s b t)) y in
+    let e : c .device ≡ delivered part p s b t = d .device ∙ ap (λ (k : ℕ). onZero k (delivered part p s b t) zeroRecord) y in
     (e, rw e (all part (length array) p s b t y))
   where
     past : (x : Bool) (k y : ℕ) → cond (not x) (suc k) y ≡ 0 → (x ≡ true) × (y ≡ 0)

@@ -5,6 +5,7 @@ use mathlib.Core.List.{List}
 use Prim.Native.Nat.{ℕ, _+_, _*_}
 use lib.Dec.{eqb}
 use lib.ListN.{length}
+use Rattle.slices.specs.Changed.{mapAt, put}
 use Rattle.device.specs.declared.Device.{Device}
 use Rattle.device.specs.declared.Checked.{Checked}
 use Rattle.device.specs.Device.{onZero, waitCall, powerUpCall, delivered}
@@ -12,7 +13,7 @@ use Rattle.device.specs.Packing.{packOf, unpackAnswer, unpackOf}
 use Rattle.chip.specs.declared.Answer.{Answer}
 use Rattle.chip.specs.declared.answers.Verdict.the-variants.{Refused}
 use Rattle.chip.specs.Answers.{deliveryAnswer}
-use Rattle.chip.specs.Outcome.{Outcome, bare, outcomeOf, transacted, arrayBy}
+use Rattle.chip.specs.Outcome.{Outcome, bare, outcomeOf, transacted}
 
 -- bits 0 to 7 the answer number, 8 to 15 the first driven position, 16 to 47 the driven count
 unfoldable pub packedAnswer : Answer → ℕ
@@ -57,4 +58,4 @@ deliveryC packed part array program sector bulk status = cond (eqb (length packe
 pub record DeliveredC (packed : List ℕ) (part : ℕ) (array : List ℕ) (program sector bulk status r : ℕ) (packed′ array′ : List ℕ) : Type 0 where
   pub answer : r ≡ packedAnswer (bare (deliveryC packed part (length array) program sector bulk status))
   pub bytes : packed′ ≡ packedBy (deliveryC packed part (length array) program sector bulk status) (delivered part program sector bulk status) packed
-  pub memory : array′ ≡ arrayBy (deliveryC packed part (length array) program sector bulk status) array
+  pub memory : array′ ≡ onZero (deliveryC packed part (length array) program sector bulk status) (mapAt (put 255) array) array
