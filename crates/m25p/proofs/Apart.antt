@@ -3,11 +3,11 @@
 use mathlib.Core.Path.{_≡_, refl, sym, ap, _∙_}
 use mathlib.Core.Bool.{cond, not, _&&_}
 use mathlib.Core.List.{List}
-use Prim.Native.Nat.{ℕ, zero, suc, _+_, _*_, _/_, _%_, _≤_, _<_}
+use Prim.Native.Nat.{ℕ, _/_, _%_, _≤_, _<_}
 use native.Mathlib.Omega.{arith}
 use lib.Dec.{eqb, ltb, lit≤}
 use lib.ListN.{length}
-use Rattle.slices.proofs.Choices.{cond-ind}
+use Rattle.slices.proofs.Choices.{cond-ind, zero-ind}
 use Rattle.parts.specs.Parts.{figuresOf, knownPart}
 use Rattle.device.specs.declared.Device.{Device}
 use Rattle.device.specs.declared.Checked.{Checked}
@@ -39,11 +39,6 @@ apart a h k l = record { number = omega arith; first = omega arith; count = omeg
 apart-bare : {r k : ℕ} → r ≡ packedAnswer (bare k) → k ≤ 23 → Apart r (bare k)
 apart-bare {r} {k} e h = rw e (apart (bare k) (omega arith) (omega arith) (omega arith))
 
--- what holds of both holds of the one that the number chooses
-by-number : {A : Type 0} (P : A → Type 0) (k : ℕ) {x y : A} → P x → P y → P (onZero k x y)
-by-number P zero p q = p
-by-number P (suc k) p q = q
-
 -- unpacking answers 0, 6 or 8
 unpack-few : (b : List ℕ) → unpackAnswer b ≤ 8
 unfolding unpackAnswer
@@ -54,7 +49,7 @@ pub transact-apart : (packed array sent : List ℕ) (pulses w : ℕ) (response :
     → Called (transactedC packed array sent pulses w response) packed r packed′ array′ response′ → Apart r (transactedC packed array sent pulses w response .answer)
 unfolding transactedC outcomeOf
 transact-apart packed array sent pulses w response p =
-    let f : Few (transactedC packed array sent pulses w response .answer) = by-number (λ (o : Outcome). Few (o .answer)) (unpackAnswer packed)
+    let f : Few (transactedC packed array sent pulses w response .answer) = zero-ind (λ (o : Outcome). Few (o .answer)) (unpackAnswer packed)
     (answer-few (unpackOf packed .device) array sent pulses (high w) response)
     (record { number = omega (arith, unpack-few packed); first = lit≤ tt; count = lit≤ tt }) in
     rw (p .answer) (apart _ (omega (arith, f .number)) (omega (arith, f .first)) (omega (arith, f .count)))
@@ -62,7 +57,7 @@ transact-apart packed array sent pulses w response p =
 -- a checked call that answers at most 8
 checked-few : (call : Device → Checked) (packed : List ℕ) → ((d : Device) → call d .answer ≤ 8) → checkedC call packed .answer ≤ 8
 unfolding checkedC unpackOf
-checked-few call packed h = by-number (λ (c : Checked). c .answer ≤ 8) (unpackAnswer packed) (h (unpackOf packed .device)) (unpack-few packed)
+checked-few call packed h = zero-ind (λ (c : Checked). c .answer ≤ 8) (unpackAnswer packed) (h (unpackOf packed .device)) (unpack-few packed)
 
 sound-few : (d : Device) → soundAnswer d ≤ 8
 unfolding soundAnswer
@@ -99,7 +94,7 @@ pins-apart packed array samples output ran =
     let P : ℕ → Type 0 = λ k. k ≤ 23 in
     let d = unpackOf packed .device in
     apart-bare (ran .answer)
-    (by-number P (unpackAnswer packed)
+    (zero-ind P (unpackAnswer packed)
     (cond-ind P (not (sound d)) (lit≤ tt)
     (cond-ind P (not (eqb (length array) (figuresOf (d .part) .bytes))) (lit≤ tt)
     (cond-ind P (oddSamples samples) (lit≤ tt) (cond-ind P (tooLong samples) (lit≤ tt) (cond-ind P (ltb (length output) (length samples)) (lit≤ tt) (lit≤ tt))))))

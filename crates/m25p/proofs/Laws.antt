@@ -3,9 +3,8 @@
 use mathlib.Core.Path.{_≡_, refl, sym, ap, _∙_}
 use mathlib.Core.Bool.{Bool, true, false, cond, not, _&&_}
 use mathlib.Core.List.{List}
-use Prim.Native.Nat.{ℕ, zero, suc, _+_, _*_, _/_, _%_, _<_}
-use native.Mathlib.Omega.{arith}
-use borrow.Author.Tests.{eq-eqb, ne-eqb, eqb-true}
+use Prim.Native.Nat.{ℕ, zero, suc}
+use borrow.Author.Tests.{eq-eqb, ne-eqb, not-false}
 use lib.Dec.{eqb}
 use lib.ListN.{length}
 use Rattle.slices.specs.Changed.{mapAt, put}
@@ -43,8 +42,7 @@ packs p l s = p .bytes ∙ rw (l, s)
 
 -- an answer that is not 0 leaves the packed bytes
 pub kept : (k : ℕ) (d : Device) (b : List ℕ) → (k ≡ 0 → ⊥) → b ≡ packedBy k d b
-kept zero d b n = absurd (n refl)
-kept (suc k) d b n = refl
+kept k d b n = other k (packOf d) b n
 
 -- an answer of 0 packs the next record
 pub written : (k : ℕ) {d e : Device} (b : List ℕ) {b′ : List ℕ} → k ≡ 0 → d ≡ e → b′ ≡ packOf d → b′ ≡ packedBy k e b
@@ -142,19 +140,15 @@ as-delivered part array p s b t {c} d z =
     let e : c .device ≡ delivered part p s b t = d .device ∙ ap (λ (k : ℕ). onZero k (delivered part p s b t) zeroRecord) y in
     (e, rw e (all part (length array) p s b t y))
   where
-    past : (x : Bool) (k y : ℕ) → cond (not x) (suc k) y ≡ 0 → (x ≡ true) × (y ≡ 0)
-    past true k y h = (refl, h)
-    past false k y h = let z : _≡_ {A = ℕ} (suc k) 0 = h in absurd (omega arith)
-
     all : (part array p s b t : ℕ) → deliveryAnswer part array p s b t ≡ 0 → sound (delivered part p s b t) ≡ true
     all part array p s b t h =
-        let one = past (knownPart part) 0 (cond (not (eqb array (figuresOf part .bytes))) 2 (cond (not (rangedOf p && rangedOf s && rangedOf b && rangedOf t)) 7 0)) h in
-        let two = past (eqb array (figuresOf part .bytes)) 1 (cond (not (rangedOf p && rangedOf s && rangedOf b && rangedOf t)) 7 0) (one .1) in
-        let seven = past (rangedOf p && rangedOf s && rangedOf b && rangedOf t) 6 0 (two .1) in
-        let q = both (rangedOf p && rangedOf s && rangedOf b) (rangedOf t) (seven .0) in
+        let one = past (not (knownPart part)) 0 _ h in
+        let two = past (not (eqb array (figuresOf part .bytes))) 1 _ (one .1) in
+        let seven = past (not (rangedOf p && rangedOf s && rangedOf b && rangedOf t)) 6 _ (two .1) in
+        let q = both (rangedOf p && rangedOf s && rangedOf b) (rangedOf t) (not-false (rangedOf p && rangedOf s && rangedOf b && rangedOf t) (seven .0)) in
         let r = both (rangedOf p && rangedOf s) (rangedOf b) (q .0) in
         let u = both (rangedOf p) (rangedOf s) (r .0) in
-        delivered-sound part p s b t (one .0) (u .0) (u .1) (r .1) (q .1)
+        delivered-sound part p s b t (not-false (knownPart part) (one .0)) (u .0) (u .1) (r .1) (q .1)
 
 pub one-delivery : {packed : List ℕ} {part : ℕ} {array : List ℕ} {p s b t q r : ℕ} {packed′ packed″ array′ array″ : List ℕ} → DeliveredC packed part array p s b t q packed′ array′ → DeliveredC packed part array p s b t r packed″ array″
     → (q ≡ r) × (packed′ ≡ packed″) × (array′ ≡ array″)

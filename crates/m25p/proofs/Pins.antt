@@ -2,9 +2,10 @@
 -- Assumes nothing.
 use mathlib.Core.Path.{_≡_, refl, sym, ap, _∙_}
 use mathlib.Core.List.{List}
-use Prim.Native.Nat.{ℕ, zero, suc}
+use Prim.Native.Nat.{ℕ}
 use lib.ListN.{length}
 use Rattle.slices.specs.Changed.{mapAt, window}
+use Rattle.slices.proofs.Choices.{other}
 use Rattle.device.specs.declared.Device.{Device}
 use Rattle.device.specs.declared.Checked.{Checked}
 use Rattle.device.specs.Device.{onZero}
@@ -14,10 +15,6 @@ use Rattle.pins.specs.Run.{chipAfter, outputAt, runAnswer, Ran}
 use Rattle.m25p.specs.Calls.{packedAnswer, packedBy}
 use Rattle.m25p.specs.Pins.{pinsC, RanC}
 use Rattle.m25p.proofs.Laws.{named, written, kept}
-
-other : {A : Type 0} (k : ℕ) (x y : A) → (k ≡ 0 → ⊥) → y ≡ onZero k x y
-other zero x y n = absurd (n refl)
-other (suc k) x y n = refl
 
 module _ (packed array samples output : List ℕ) where
   -- the packing is refused
