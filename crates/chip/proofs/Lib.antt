@@ -5,4 +5,5 @@ pub mod Lines
 pub mod Records
 pub mod Laws
 pub mod Rules
+pub mod Events
 pub mod Worked

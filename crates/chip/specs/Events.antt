@@ -1,0 +1,55 @@
+-- The chip over lists of events: what may be done to it, what that leaves, and what the caller sees.
+use mathlib.Core.Path.{_≡_}
+use mathlib.Core.Bool.{Bool, true}
+use mathlib.Core.List.{List, [], _∷_}
+use Prim.Native.Nat.{ℕ}
+use lib.ListN.{length, replicate}
+use Rattle.parts.specs.Parts.{figuresOf}
+use Rattle.device.specs.Device.{sound, waitCall, powerUpCall}
+pub use Rattle.device.specs.Chip.{Chip}
+use Rattle.chip.specs.declared.Answer.{Answer}
+use Rattle.chip.specs.Outcome.{Outcome, bare, transacted}
+
+-- a sound record, and an array of the part's length
+pub record Good (c : Chip) : Type 0 where
+  pub sound : sound (c .device) ≡ true
+  pub whole : length (c .array) ≡ figuresOf (c .device .part) .bytes
+
+pub data Event : Type 0 where
+  -- a transaction: its bytes, the further pulses, the level of W
+  sends : List ℕ → ℕ → Bool → Event
+  -- ticks go by
+  waits : ℕ → Event
+  -- power-up
+  starts : Event
+
+-- what the caller sees: the answer, and as many response bytes as were sent
+pub record Told : Type 0 where
+  pub answer : Answer
+  pub line : List ℕ
+
+-- a transaction with a response of its own length
+unfoldable pub sent : Chip → List ℕ → ℕ → Bool → Outcome
+sent c bytes pulses w = transacted (c .device) (c .array) bytes pulses w (replicate (length bytes) 0)
+
+-- the chip after one event
+abbrev pub after : Event → Chip → Chip
+after (sends bytes pulses w) c = record { device = sent c bytes pulses w .device; array = sent c bytes pulses w .array }
+after (waits t) c = record { device = waitCall (c .device) t .device; array = c .array }
+after starts c = record { device = powerUpCall (c .device) .device; array = c .array }
+
+-- what the caller sees of one event
+abbrev pub told : Event → Chip → Told
+told (sends bytes pulses w) c = record { answer = sent c bytes pulses w .answer; line = sent c bytes pulses w .response }
+told (waits t) c = record { answer = bare (waitCall (c .device) t .answer); line = [] }
+told starts c = record { answer = bare (powerUpCall (c .device) .answer); line = [] }
+
+-- one event after the other
+abbrev pub run : List Event → Chip → Chip
+run [] c = c
+run (e ∷ es) c = run es (after e c)
+
+-- what the caller sees, in order
+abbrev pub story : List Event → Chip → List Told
+story [] c = []
+story (e ∷ es) c = told e c ∷ story es (after e c)
