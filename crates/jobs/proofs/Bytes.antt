@@ -21,7 +21,7 @@ use Rattle.device.specs.Cycles.{touched}
 use Rattle.chip.specs.Table.{rowOf, addressOf}
 use Rattle.chip.specs.Change.{cycleOf, changed, asItWas}
 use Rattle.chip.proofs.Rules.{changed-byte}
-use Rattle.jobs.specs.Jobs.{Job, Ran, isProgram, isErase, code, WellFormed, AllFormed}
+use Rattle.jobs.specs.Jobs.{Job, Entry, isProgram, isErase, code, WellFormed, AllFormed}
 use Rattle.jobs.specs.Formula.{over, erasedBy, reaches, byteFor, programmedBy, everErased, afterLastErase, programmedBytes, ands, endsAs}
 use Rattle.jobs.specs.Swap.{names, MaySwap, bothPrograms, bothErases, differentSectors}
 use Rattle.jobs.proofs.Steps.{codes-ind, own, number, effect}
@@ -125,7 +125,7 @@ through d [] i x = x
 through d (j ∷ js) i x = through d js i (effect d j i x)
 
 -- the jobs with the numbers that they get
-abbrev pub rans : Device → List Job → List Ran
+abbrev pub rans : Device → List Job → List Entry
 rans d [] = []
 rans d (j ∷ js) = record { job = j; number = number d j } ∷ rans d js
 
@@ -170,7 +170,7 @@ neither true b h = absurd (true≢false h)
 neither false b h = (refl, h)
 
 -- without an erase every job comes after the last one
-all-after : (f : Figures) (i : ℕ) (rs : List Ran) → everErased f i rs ≡ false → afterLastErase f i rs ≡ rs
+all-after : (f : Figures) (i : ℕ) (rs : List Entry) → everErased f i rs ≡ false → afterLastErase f i rs ≡ rs
 all-after f i [] h = refl
 all-after f i (r ∷ rs) h = go (neither (erasedBy f i r) (everErased f i rs) h)
   where
@@ -178,14 +178,14 @@ all-after f i (r ∷ rs) h = go (neither (erasedBy f i r) (everErased f i rs) h)
     go h = rw (h .1, h .0)
 
 -- one job more in front; bs is what it programmed
-one-more : (f : Figures) (i : ℕ) (r : Ran) (rs : List Ran) (x : ℕ) (v e : Bool) → (v ≡ false → afterLastErase f i rs ≡ rs)
+one-more : (f : Figures) (i : ℕ) (r : Entry) (rs : List Entry) (x : ℕ) (v e : Bool) → (v ≡ false → afterLastErase f i rs ≡ rs)
     → ands (cond v 0xFF (cond e 0xFF (ands x (cond (programmedBy f i r) (byteFor f i (r .job) ∷ []) [])))) (programmedBytes f i (afterLastErase f i rs))
     ≡ ands (cond (e || v) 0xFF x) (programmedBytes f i (cond v (afterLastErase f i rs) (cond e rs (r ∷ rs))))
 one-more f i r rs x true true s = refl
 one-more f i r rs x true false s = refl
-one-more f i r rs x false true s = ap (λ (qs : List Ran). ands 0xFF (programmedBytes f i qs)) (s refl)
+one-more f i r rs x false true s = ap (λ (qs : List Entry). ands 0xFF (programmedBytes f i qs)) (s refl)
 one-more f i r rs x false false s =
-    ap (λ (qs : List Ran). ands (ands x (cond (programmedBy f i r) (byteFor f i (r .job) ∷ []) [])) (programmedBytes f i qs)) (s refl)
+    ap (λ (qs : List Entry). ands (ands x (cond (programmedBy f i r) (byteFor f i (r .job) ∷ []) [])) (programmedBytes f i qs)) (s refl)
     ∙ sym (ands-append x (cond (programmedBy f i r) (byteFor f i (r .job) ∷ []) []) (programmedBytes f i rs))
 
 -- a list of jobs leaves what the formula says

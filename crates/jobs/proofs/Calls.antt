@@ -1,19 +1,20 @@
 -- One job as a call: what its steps give, and that it is the job of the theorems.
 -- Assumes nothing.
-use mathlib.Core.Path.{_≡_, refl, _∙_}
+use mathlib.Core.Path.{_≡_, refl, sym, ap, _∙_}
 use mathlib.Core.Bool.{Bool}
-use mathlib.Core.List.{List}
-use Prim.Native.Nat.{ℕ, zero, suc}
+use mathlib.Core.List.{List, []}
+use Prim.Native.Nat.{ℕ, zero, suc, _≤_}
 use lib.ListN.{length}
 use Rattle.device.specs.declared.Device.{Device}
 use Rattle.device.specs.declared.Checked.{Checked}
 use Rattle.device.specs.Device.{waitCall}
 use Rattle.chip.specs.declared.Answer.{Answer}
 use Rattle.chip.specs.Answers.{refusal}
-use Rattle.chip.specs.Outcome.{bare, outcomeOf, Transacted}
-use Rattle.jobs.specs.Jobs.{Chip, longestCycle, enabled, carriedOut, rested, disabled, AtRest, WellFormed}
-use Rattle.jobs.specs.Call.{jobOf, fourCalls, jobbed, Jobbed, alone}
-use Rattle.jobs.proofs.Steps.{no-refusal}
+use Rattle.chip.specs.Outcome.{Outcome, bare, outcomeOf, Transacted}
+use Rattle.chip.specs.Events.{Chip, Good, after, run}
+use Rattle.chip.proofs.Events.{no-refusal, after-good, any-response}
+use Rattle.jobs.specs.Jobs.{Job, longestCycle, enable, rest, disable, afterJob, answered, AtRest, WellFormed}
+use Rattle.jobs.specs.Call.{jobOf, carriedWith, endedAfter, fourCalls, jobbed, Jobbed, alone}
 
 module _ (d : Device) (xs sent : List ℕ) (p : ℕ) (w : Bool) (r : List ℕ) where
   -- a host-side number
@@ -30,7 +31,7 @@ module _ (d : Device) (xs sent : List ℕ) (p : ℕ) (w : Bool) (r : List ℕ) w
       → rest ≡ waitCall going t
       → next ≡ alone (rest .device) zs 0x04 w .device → end ≡ alone (rest .device) zs 0x04 w .array
       → Jobbed d xs sent p w r a next end r′
-  unfolding jobbed enabled carriedOut rested disabled
+  unfolding jobbed
   job-passes t h et eo ey m er en ee =
       rw h (record {
         answer = m .answer ∙ rw (eo, ey);
@@ -39,9 +40,17 @@ module _ (d : Device) (xs sent : List ℕ) (p : ℕ) (w : Bool) (r : List ℕ) w
         line = m .line ∙ rw (eo, ey);
       })
 
--- from standby a well-formed job is the job of the theorems
-pub job-call : (c : Chip) → AtRest c → (sent : List ℕ) (p : ℕ) (w : Bool) (r : List ℕ) → WellFormed (jobOf sent p w r)
-    → jobbed (c .device) (c .array) sent p w r ≡ fourCalls (jobOf sent p w r) c
+-- from standby the call of a well-formed job, with room for its response, is the job of the theorems: same number, record and array
+pub record IsJob (o : Outcome) (j : Job) (c : Chip) : Type 0 where
+  pub number : o .answer .number ≡ answered j c
+  pub device : o .device ≡ afterJob j c .device
+  pub array : o .array ≡ afterJob j c .array
+
+pub job-call : (c : Chip) → AtRest c → (sent : List ℕ) (p : ℕ) (w : Bool) (r : List ℕ) → WellFormed (jobOf sent p w) → length sent ≤ length r
+    → IsJob (jobbed (c .device) (c .array) sent p w r) (jobOf sent p w) c
 unfolding jobbed
-job-call c s sent p w r f =
-    rw (no-refusal (c .device) (length (c .array)) (length sent) p (length r) (s .sound) (s .whole) (f .few) (f .pulses) (f .room₂))
+job-call c s sent p w r f room =
+    let j = jobOf sent p w in
+    let e = any-response (after (enable j) c) (after-good (enable j) c (s .good)) sent p w (f .few) (f .pulses) r room in
+    rw (no-refusal (c .device) (length (c .array)) (length sent) p (length r) (s .good .sound) (s .good .whole) (f .few) (f .pulses) room)
+    (record { number = e .0 .number; device = rw (e .1, e .2); array = rw (e .1, e .2) })

@@ -6,10 +6,11 @@ use mathlib.Core.Bool.{Bool, true, false, cond, not, _||_, false≢true}
 use mathlib.Core.List.{List, [], _∷_}
 use Prim.Native.Nat.{ℕ, _≤_}
 use native.Mathlib.Omega.{arith}
-use borrow.Author.Tests.{eqb-true, eq-eqb, le-ltb}
+use borrow.Author.Tests.{eqb-true, le-ltb}
 use lib.Dec.{eqb, ltb, eqb·suc-zero}
-use lib.ListN.{length, getD}
+use lib.ListN.{length, getD, replicate, length-replicate}
 use Rattle.slices.specs.Changed.{mapAt}
+use Rattle.slices.proofs.Choices.{cond-ind}
 use Rattle.slices.proofs.Maps.{map-same, length-map}
 use Rattle.parts.specs.declared.Figures.{Figures}
 use Rattle.parts.specs.Parts.{figuresOf}
@@ -21,7 +22,9 @@ use Rattle.chip.specs.Table.{rowOf, addressOf, rowIn}
 use Rattle.chip.specs.Answers.{refusal, ignorance, asNeeded, inProtected, decided, verdictOf}
 use Rattle.chip.specs.Change.{changed, asItWas, turned}
 use Rattle.chip.specs.Outcome.{Outcome, outcomeOf, transacted}
-use Rattle.jobs.specs.Jobs.{Job, Chip, longestCycle, enabled, carriedOut, rested, disabled, after, answered, code, WellFormed, ExecutedOr15Or17}
+use Rattle.chip.specs.Events.{Chip, sends, sent, after, told, run}
+use Rattle.chip.proofs.Events.{no-refusal}
+use Rattle.jobs.specs.Jobs.{Job, longestCycle, enable, carry, rest, disable, afterJob, answered, code, WellFormed, ExecutedOr15Or17}
 
 -- the record in standby, with the latch as given
 abbrev pub resting : Device → Bool → Device
@@ -37,11 +40,6 @@ pub rest-sound : (d : Device) (l : Bool) → sound d ≡ true → sound (resting
 rest-sound d l s = standby-sound d l s
 
 -- ---- a call that no host-side number answers
-
--- none of 6, 2, 3, 4, 5
-pub no-refusal : (d : Device) (len n p r : ℕ) → sound d ≡ true → len ≡ figuresOf (d .part) .bytes → n ≤ 65536 → p ≤ 7 → n ≤ r → refusal d len n p r ≡ 0
-unfolding refusal
-no-refusal d len n p r s e a b c = rw (s, eq-eqb len (figuresOf (d .part) .bytes) e, le-ltb 65536 n a, le-ltb 7 p b, le-ltb r n c)
 
 -- what the bytes do to each byte of the array where they are executed
 abbrev pub own : Figures → List ℕ → ℕ → ℕ → ℕ
@@ -101,40 +99,33 @@ turned-cases d s P h b =
 
 -- ---- write enable and write disable, from standby
 
-module _ (d : Device) (s : sound d ≡ true) (xs : List ℕ) (z : length xs ≡ figuresOf (d .part) .bytes) (l w : Bool) (r : List ℕ) (room : 1 ≤ length r) where
-  passes : refusal (resting d l) (length xs) 1 0 (length r) ≡ 0
+module _ (d : Device) (s : sound d ≡ true) (xs : List ℕ) (z : length xs ≡ figuresOf (d .part) .bytes) (l w : Bool) where
+  -- one byte alone, without further pulses, is not refused
+  passes : refusal (resting d l) (length xs) 1 0 1 ≡ 0
   unfolding moded
-  passes = no-refusal (resting d l) (length xs) 1 0 (length r) (rest-sound d l s) z (omega arith) (omega arith) room
+  passes = no-refusal (resting d l) (length xs) 1 0 1 (rest-sound d l s) z (omega arith) (omega arith) (omega arith)
 
-  wren-goes : transacted (resting d l) xs (0x06 ∷ []) 0 w r ≡ outcomeOf (decided 0 0) (resting d l) xs (0x06 ∷ []) r
-  unfolding ignorance rowOf asNeeded moded
-  wren-goes = called (resting d l) xs (0x06 ∷ []) 0 w r passes
+  wren-goes : sent (chip (resting d l) xs) (0x06 ∷ []) 0 w ≡ outcomeOf (decided 0 0) (resting d l) xs (0x06 ∷ []) (0 ∷ [])
+  unfolding sent ignorance rowOf asNeeded moded
+  wren-goes = called (resting d l) xs (0x06 ∷ []) 0 w (0 ∷ []) passes
 
-  wrdi-goes : transacted (resting d l) xs (0x04 ∷ []) 0 w r ≡ outcomeOf (decided 0 0) (resting d l) xs (0x04 ∷ []) r
-  unfolding ignorance rowOf asNeeded moded
-  wrdi-goes = called (resting d l) xs (0x04 ∷ []) 0 w r passes
+  wrdi-goes : sent (chip (resting d l) xs) (0x04 ∷ []) 0 w ≡ outcomeOf (decided 0 0) (resting d l) xs (0x04 ∷ []) (0 ∷ [])
+  unfolding sent ignorance rowOf asNeeded moded
+  wrdi-goes = called (resting d l) xs (0x04 ∷ []) 0 w (0 ∷ []) passes
 
-  pub wren-device : transacted (resting d l) xs (0x06 ∷ []) 0 w r .device ≡ resting d true
-  unfolding outcomeOf decided turned rowOf latched moded
-  wren-device = ap (λ (o : Outcome). o .device) wren-goes
+  pub wren-is : after (sends (0x06 ∷ []) 0 w) (chip (resting d l) xs) ≡ chip (resting d true) xs
+  unfolding outcomeOf decided turned changed rowOf latched moded
+  wren-is = ap₂ chip (ap (λ (o : Outcome). o .device) wren-goes) (ap (λ (o : Outcome). o .array) wren-goes ∙ map-same xs)
 
-  pub wren-array : transacted (resting d l) xs (0x06 ∷ []) 0 w r .array ≡ xs
-  unfolding outcomeOf decided changed rowOf
-  wren-array = ap (λ (o : Outcome). o .array) wren-goes ∙ map-same xs
-
-  pub wren-number : transacted (resting d l) xs (0x06 ∷ []) 0 w r .answer .number ≡ 0
+  pub wren-number : told (sends (0x06 ∷ []) 0 w) (chip (resting d l) xs) .answer .number ≡ 0
   unfolding outcomeOf decided
   wren-number = ap (λ (o : Outcome). o .answer .number) wren-goes
 
-  pub wrdi-device : transacted (resting d l) xs (0x04 ∷ []) 0 w r .device ≡ resting d false
-  unfolding outcomeOf decided turned rowOf latched moded
-  wrdi-device = ap (λ (o : Outcome). o .device) wrdi-goes
+  pub wrdi-is : after (sends (0x04 ∷ []) 0 w) (chip (resting d l) xs) ≡ chip (resting d false) xs
+  unfolding outcomeOf decided turned changed rowOf latched moded
+  wrdi-is = ap₂ chip (ap (λ (o : Outcome). o .device) wrdi-goes) (ap (λ (o : Outcome). o .array) wrdi-goes ∙ map-same xs)
 
-  pub wrdi-array : transacted (resting d l) xs (0x04 ∷ []) 0 w r .array ≡ xs
-  unfolding outcomeOf decided changed rowOf
-  wrdi-array = ap (λ (o : Outcome). o .array) wrdi-goes ∙ map-same xs
-
-  pub wrdi-number : transacted (resting d l) xs (0x04 ∷ []) 0 w r .answer .number ≡ 0
+  pub wrdi-number : told (sends (0x04 ∷ []) 0 w) (chip (resting d l) xs) .answer .number ≡ 0
   unfolding outcomeOf decided
   wrdi-number = ap (λ (o : Outcome). o .answer .number) wrdi-goes
 
@@ -165,75 +156,66 @@ abbrev pub effect : Device → Job → ℕ → ℕ → ℕ
 effect d j = cond (eqb (number d j) 0) (own (figuresOf (d .part)) (j .sent)) asItWas
 
 module _ (d : Device) (s : sound d ≡ true) (xs : List ℕ) (z : length xs ≡ figuresOf (d .part) .bytes) (l : Bool) (j : Job) (f : WellFormed j) where
-  -- call 1
-  pub enabled-device : enabled j (chip (resting d l) xs) .device ≡ resting d true
-  unfolding enabled
-  enabled-device = wren-device d s xs z l (j .w₁) (j .response₁) (f .room₁)
+  -- each byte touched once
+  abbrev ys : List ℕ
+  ys = mapAt (effect d j) xs
 
-  pub enabled-array : enabled j (chip (resting d l) xs) .array ≡ xs
-  unfolding enabled
-  enabled-array = wren-array d s xs z l (j .w₁) (j .response₁) (f .room₁)
-
-  pub enabled-number : enabled j (chip (resting d l) xs) .answer .number ≡ 0
-  unfolding enabled
-  enabled-number = wren-number d s xs z l (j .w₁) (j .response₁) (f .room₁)
-
-  -- call 2
-  carried : carriedOut j (chip (resting d l) xs) ≡ outcomeOf (decided 0 (number d j)) (resting d true) xs (j .sent) (j .response₂)
-  unfolding carriedOut moded
-  carried =
-      ap₂ (λ (e : Device) (ys : List ℕ). transacted e ys (j .sent) (j .pulses) (j .w₂) (j .response₂)) enabled-device enabled-array
-      ∙ called (resting d true) xs (j .sent) (j .pulses) (j .w₂) (j .response₂)
-      (no-refusal (resting d true) (length xs) (length (j .sent)) (j .pulses) (length (j .response₂)) (rest-sound d true s) z (f .few) (f .pulses) (f .room₂))
-
-  pub answered-is : answered j (chip (resting d l) xs) ≡ number d j
-  answered-is = ap (λ (o : Outcome). o .answer .number) carried ∙ number-is (resting d true) xs (j .sent) (j .response₂) (number d j)
-
-  pub carried-array : carriedOut j (chip (resting d l) xs) .array ≡ mapAt (effect d j) xs
-  unfolding moded
-  carried-array = ap (λ (o : Outcome). o .array) carried ∙ array-is (resting d true) xs (j .sent) (j .response₂) (number d j)
-
-  carried-device : carriedOut j (chip (resting d l) xs) .device ≡ cond (eqb (number d j) 0) (turned (rowIn d (j .sent) .turn) (figuresOf (d .part)) (resting d true) (getD (j .sent) 1 0)) (resting d true)
-  unfolding moded
-  carried-device = ap (λ (o : Outcome). o .device) carried ∙ device-is (resting d true) xs (j .sent) (j .response₂) (number d j)
-
-  -- call 3
-  carried-waits : Waits d (carriedOut j (chip (resting d l) xs) .device)
-  carried-waits =
-      subst (Waits d) (sym carried-device)
-      (go (turned (rowIn d (j .sent) .turn) (figuresOf (d .part)) (resting d true) (getD (j .sent) 1 0)) (eqb (number d j) 0)
-      (turned-cases d s (Waits d) (busy-waits d s) (getD (j .sent) 1 0) (code j) (f .kind)))
-    where
-      go : (e : Device) (b : Bool) → Waits d e → Waits d (cond b e (resting d true))
-      go e true h = h
-      go e false h = still-waits d s
-
-  pub rested-number : rested j (chip (resting d l) xs) .answer ≡ 0
-  unfolding rested moded
-  rested-number = carried-waits .0
-
-  rested-device : rested j (chip (resting d l) xs) .device ≡ resting d (carried-waits .1 .0)
-  unfolding rested moded
-  rested-device = carried-waits .1 .1
-
-  -- call 4
-  last : disabled j (chip (resting d l) xs) ≡ transacted (resting d (carried-waits .1 .0)) (mapAt (effect d j) xs) (0x04 ∷ []) 0 (j .w₃) (j .response₃)
-  unfolding disabled
-  last = ap₂ (λ (e : Device) (ys : List ℕ). transacted e ys (0x04 ∷ []) 0 (j .w₃) (j .response₃)) rested-device carried-array
-
-  length-same : length (mapAt (effect d j) xs) ≡ figuresOf (d .part) .bytes
+  length-same : length ys ≡ figuresOf (d .part) .bytes
   length-same = length-map (effect d j) xs ∙ z
 
-  pub disabled-number : disabled j (chip (resting d l) xs) .answer .number ≡ 0
-  disabled-number =
-      ap (λ (o : Outcome). o .answer .number) last ∙ wrdi-number d s (mapAt (effect d j) xs) length-same (carried-waits .1 .0) (j .w₃) (j .response₃) (f .room₃)
+  -- call 1
+  enabled-is : after (enable j) (chip (resting d l) xs) ≡ chip (resting d true) xs
+  enabled-is = wren-is d s xs z l (j .w₁)
+
+  pub enabled-number : told (enable j) (chip (resting d l) xs) .answer .number ≡ 0
+  enabled-number = wren-number d s xs z l (j .w₁)
+
+  -- call 2
+  abbrev zeros : List ℕ
+  zeros = replicate (length (j .sent)) 0
+
+  carried : sent (chip (resting d true) xs) (j .sent) (j .pulses) (j .w₂) ≡ outcomeOf (decided 0 (number d j)) (resting d true) xs (j .sent) zeros
+  unfolding sent moded
+  carried =
+      called (resting d true) xs (j .sent) (j .pulses) (j .w₂) zeros
+      (no-refusal (resting d true) (length xs) (length (j .sent)) (j .pulses) (length zeros) (rest-sound d true s) z (f .few) (f .pulses) (omega (arith, length-replicate {A = ℕ} (length (j .sent)) 0)))
+
+  pub answered-is : answered j (chip (resting d l) xs) ≡ number d j
+  answered-is =
+      ap (λ (c : Chip). told (carry j) c .answer .number) enabled-is ∙ (ap (λ (o : Outcome). o .answer .number) carried ∙ number-is (resting d true) xs (j .sent) zeros (number d j))
+
+  abbrev going : Device
+  going = cond (eqb (number d j) 0) (turned (rowIn d (j .sent) .turn) (figuresOf (d .part)) (resting d true) (getD (j .sent) 1 0)) (resting d true)
+
+  carried-is : after (carry j) (chip (resting d true) xs) ≡ chip going ys
+  unfolding moded
+  carried-is =
+      ap₂ chip (ap (λ (o : Outcome). o .device) carried ∙ device-is (resting d true) xs (j .sent) zeros (number d j))
+      (ap (λ (o : Outcome). o .array) carried ∙ array-is (resting d true) xs (j .sent) zeros (number d j))
+
+  two-are : run (enable j ∷ carry j ∷ []) (chip (resting d l) xs) ≡ chip going ys
+  two-are = ap (after (carry j)) enabled-is ∙ carried-is
+
+  -- call 3
+  going-waits : Waits d going
+  going-waits =
+      cond-ind (Waits d) (eqb (number d j) 0) (turned-cases d s (Waits d) (busy-waits d s) (getD (j .sent) 1 0) (code j) (f .kind)) (still-waits d s)
+
+  three-are : run (enable j ∷ carry j ∷ rest (resting d l) ∷ []) (chip (resting d l) xs) ≡ chip (resting d (going-waits .1 .0)) ys
+  unfolding moded
+  three-are = ap (after (rest d)) two-are ∙ ap (λ (e : Device). chip e ys) (going-waits .1 .1)
+
+  pub rested-number : told (rest (resting d l)) (run (enable j ∷ carry j ∷ []) (chip (resting d l) xs)) .answer .number ≡ 0
+  unfolding moded
+  rested-number = ap (λ (c : Chip). told (rest d) c .answer .number) two-are ∙ going-waits .0
+
+  -- call 4
+  pub disabled-number : told (disable j) (run (enable j ∷ carry j ∷ rest (resting d l) ∷ []) (chip (resting d l) xs)) .answer .number ≡ 0
+  disabled-number = ap (λ (c : Chip). told (disable j) c .answer .number) three-are ∙ wrdi-number d s ys length-same (going-waits .1 .0) (j .w₃)
 
   -- a job leaves the record in standby with the latch reset, and touches each byte once
-  pub after-is : after j (chip (resting d l) xs) ≡ chip (resting d false) (mapAt (effect d j) xs)
-  after-is =
-      ap₂ chip
-      (ap (λ (o : Outcome). o .device) last ∙ wrdi-device d s (mapAt (effect d j) xs) length-same (carried-waits .1 .0) (j .w₃) (j .response₃) (f .room₃))
-      (ap (λ (o : Outcome). o .array) last ∙ wrdi-array d s (mapAt (effect d j) xs) length-same (carried-waits .1 .0) (j .w₃) (j .response₃) (f .room₃))
+  pub after-is : afterJob j (chip (resting d l) xs) ≡ chip (resting d false) ys
+  after-is = ap (after (disable j)) three-are ∙ wrdi-is d s ys length-same (going-waits .1 .0) (j .w₃)
 
 -- ---- the number that a job's program or erase gets
 

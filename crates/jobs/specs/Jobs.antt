@@ -7,76 +7,69 @@ use Prim.Native.Nat.{ℕ, _/_, _≤_, max}
 use lib.Dec.{eqb}
 use lib.ListN.{length, getD}
 use Rattle.parts.specs.declared.Figures.{Figures}
-use Rattle.parts.specs.Parts.{figuresOf}
 use Rattle.device.specs.declared.Mode.the-variants.{Standby}
 use Rattle.device.specs.declared.Device.{Device}
-use Rattle.device.specs.declared.Checked.{Checked}
-use Rattle.device.specs.Device.{sound, waitCall}
 use Rattle.chip.specs.Table.{addressOf}
-use Rattle.chip.specs.Outcome.{Outcome, transacted}
+use Rattle.chip.specs.Events.{Chip, Good, Event, sends, waits, after, told, run}
 
 -- ---- a job and its four calls
 
--- a job as it is called: the bytes and further pulses of its program or erase; the level of W and the response of its three transactions
+-- a job: the bytes and further pulses of its program or erase; the level of W of its three transactions
 pub record Job : Type 0 where
   pub sent : List ℕ
   pub pulses : ℕ
   pub w₁ : Bool
   pub w₂ : Bool
   pub w₃ : Bool
-  pub response₁ : List ℕ
-  pub response₂ : List ℕ
-  pub response₃ : List ℕ
-
--- a record and its array, as they are between two jobs
-pub record Chip : Type 0 where
-  pub device : Device
-  pub array : List ℕ
 
 -- the greatest of the four durations
 abbrev pub longestCycle : Device → ℕ
 longestCycle d = max (max (d .program) (d .«sector_erase»)) (max (d .«bulk_erase») (d .«write_status»))
 
 -- call 1: write enable, 06 alone, without further pulses
-unfoldable pub enabled : Job → Chip → Outcome
-enabled j c = transacted (c .device) (c .array) (0x06 ∷ []) 0 (j .w₁) (j .response₁)
+abbrev pub enable : Job → Event
+enable j = sends (0x06 ∷ []) 0 (j .w₁)
 
--- call 2: the program or erase, on what call 1 handed back
-unfoldable pub carriedOut : Job → Chip → Outcome
-carriedOut j c = transacted (enabled j c .device) (enabled j c .array) (j .sent) (j .pulses) (j .w₂) (j .response₂)
+-- call 2: the program or erase
+abbrev pub carry : Job → Event
+carry j = sends (j .sent) (j .pulses) (j .w₂)
 
--- call 3: the wait, on the record that call 2 handed back
-unfoldable pub rested : Job → Chip → Checked
-rested j c = waitCall (carriedOut j c .device) (longestCycle (c .device))
+-- call 3: the wait, as long as the longest cycle
+abbrev pub rest : Device → Event
+rest d = waits (longestCycle d)
 
--- call 4: write disable, 04 alone, without further pulses, on what calls 3 and 2 handed back
-unfoldable pub disabled : Job → Chip → Outcome
-disabled j c = transacted (rested j c .device) (carriedOut j c .array) (0x04 ∷ []) 0 (j .w₃) (j .response₃)
+-- call 4: write disable, 04 alone, without further pulses
+abbrev pub disable : Job → Event
+disable j = sends (0x04 ∷ []) 0 (j .w₃)
 
--- what a job hands back
-abbrev pub after : Job → Chip → Chip
-after j c = record { device = disabled j c .device; array = disabled j c .array }
+-- the calls of a job on a chip with such a record
+abbrev pub callsOf : Device → Job → List Event
+callsOf d j = enable j ∷ carry j ∷ rest d ∷ disable j ∷ []
+
+-- what a job hands back: each call is on what the one before handed back
+abbrev pub afterJob : Job → Chip → Chip
+afterJob j c = run (callsOf (c .device) j) c
 
 -- the answer number that the job's program or erase gets
 abbrev pub answered : Job → Chip → ℕ
-answered j c = carriedOut j c .answer .number
+answered j c = told (carry j) (after (enable j) c) .answer .number
 
 -- ---- a list of jobs
 
 -- one job after the other, each on what the one before handed back
-abbrev pub run : List Job → Chip → Chip
-run [] c = c
-run (j ∷ js) c = run js (after j c)
+abbrev pub runJobs : List Job → Chip → Chip
+runJobs [] c = c
+runJobs (j ∷ js) c = runJobs js (afterJob j c)
 
 -- a job that was run, and the answer number that its program or erase got in that run
-pub record Ran : Type 0 where
+pub record Entry : Type 0 where
   pub job : Job
   pub number : ℕ
 
 -- what happened in the run
-abbrev pub history : List Job → Chip → List Ran
+abbrev pub history : List Job → Chip → List Entry
 history [] c = []
-history (j ∷ js) c = record { job = j; number = answered j c } ∷ history js (after j c)
+history (j ∷ js) c = record { job = j; number = answered j c } ∷ history js (afterJob j c)
 
 -- ---- what a job is
 
@@ -112,19 +105,15 @@ sector f j = address f j / f .«sector_bytes»
 
 -- standby: a sound record, whatever its latch, and an array of the part's length
 pub record AtRest (c : Chip) : Type 0 where
-  pub sound : sound (c .device) ≡ true
+  pub good : Good c
   pub standby : c .device .mode ≡ Standby
-  pub whole : length (c .array) ≡ figuresOf (c .device .part) .bytes
 
--- one program or erase, a program or sector erase with its whole address; and, with the above, no host-side number for any of the four calls: n at most 65,536, further pulses at most 7, responses of at least n bytes
+-- one program or erase, a program or sector erase with its whole address; and, with the above, no host-side number for any of the four calls: n at most 65,536, further pulses at most 7
 pub record WellFormed (j : Job) : Type 0 where
   pub kind : isProgram j || isErase j ≡ true
   pub addressed : isBulkErase j ≡ false → 4 ≤ length (j .sent)
   pub few : length (j .sent) ≤ 65536
   pub pulses : j .pulses ≤ 7
-  pub room₁ : 1 ≤ length (j .response₁)
-  pub room₂ : length (j .sent) ≤ length (j .response₂)
-  pub room₃ : 1 ≤ length (j .response₃)
 
 -- every job of a list
 abbrev pub AllFormed : List Job → Type 0
@@ -139,12 +128,12 @@ ExecutedOr15Or17 k = (k ≡ 0) ⊎ ((k ≡ 15) ⊎ (k ≡ 17))
 
 -- no host-side number answers any of the four calls
 pub record Answers (j : Job) (c : Chip) : Type 0 where
-  pub enable : enabled j c .answer .number ≡ 0
-  pub carry : ExecutedOr15Or17 (answered j c)
-  pub rest : rested j c .answer ≡ 0
-  pub disable : disabled j c .answer .number ≡ 0
+  pub enabled : told (enable j) c .answer .number ≡ 0
+  pub carried : ExecutedOr15Or17 (answered j c)
+  pub rested : told (rest (c .device)) (run (enable j ∷ carry j ∷ []) c) .answer .number ≡ 0
+  pub disabled : told (disable j) (run (enable j ∷ carry j ∷ rest (c .device) ∷ []) c) .answer .number ≡ 0
 
 -- so for every job of a run
 abbrev pub AllAnswer : List Job → Chip → Type 0
 AllAnswer [] c = Unit {0}
-AllAnswer (j ∷ js) c = Answers j c × AllAnswer js (after j c)
+AllAnswer (j ∷ js) c = Answers j c × AllAnswer js (afterJob j c)

@@ -18,7 +18,8 @@ use Rattle.chip.specs.Answers.{refusal, ignorance, asNeeded, inProtected, decid
 use Rattle.device.specs.Cycles.{touched}
 use Rattle.chip.specs.Change.{cycleOf, changed, turned}
 use Rattle.chip.specs.Outcome.{outcomeOf, transacted}
-use Rattle.jobs.specs.Jobs.{Job, Chip, Ran, enabled, carriedOut, rested, disabled, run, history, isProgram, isErase, isBulkErase, AtRest, WellFormed, AllFormed}
+use Rattle.chip.specs.Events.{Chip, sent}
+use Rattle.jobs.specs.Jobs.{Job, Entry, runJobs, history, isProgram, isErase, isBulkErase, AtRest, WellFormed, AllFormed}
 use Rattle.jobs.specs.Formula.{afterLastErase, programmedBytes, endsAs}
 
 -- the bench part in standby with BP 1, which protects the sector from 000C00 on; durations 3, 5, 9, 2; every byte 7F
@@ -29,10 +30,9 @@ start =
       array = replicate 4096 0x7F;
     }
 
--- a job with W low and room for each response
+-- a job with W low
 abbrev pub job : List ℕ → Job
-job sent =
-    record { sent = sent; pulses = 0; w₁ = false; w₂ = false; w₃ = false; response₁ = 0 ∷ []; response₂ = replicate 5 0; response₃ = 0 ∷ [] }
+job sent = record { sent = sent; pulses = 0; w₁ = false; w₂ = false; w₃ = false }
 
 -- one byte b programmed at address 00, middle, low
 abbrev pub programs : ℕ → ℕ → ℕ → Job
@@ -47,18 +47,18 @@ abbrev pub second : List Job
 second = job (0xD8 ∷ 0x00 ∷ 0x00 ∷ 0x00 ∷ []) ∷ programs 0x00 0x10 0x5A ∷ programs 0x00 0x10 0x3C ∷ job (0xC7 ∷ []) ∷ []
 
 -- the answer numbers of a run
-abbrev pub numbers : List Ran → List ℕ
+abbrev pub numbers : List Entry → List ℕ
 numbers [] = []
 numbers (r ∷ rs) = r .number ∷ numbers rs
 
 -- the start and the lists are as the theorems ask
 pub ready : AtRest start
 unfolding sound figuresOf
-ready = record { sound = refl; standby = refl; whole = length-replicate {A = ℕ} 4096 0x7F }
+ready = record { good = record { sound = refl; whole = length-replicate {A = ℕ} 4096 0x7F }; standby = refl }
 
 -- a job of at most five bytes is well formed
 well : (sent : List ℕ) → isProgram (job sent) || isErase (job sent) ≡ true → (isBulkErase (job sent) ≡ false → 4 ≤ length sent) → length sent ≤ 5 → WellFormed (job sent)
-well sent k a n = record { kind = k; addressed = a; few = omega arith; pulses = lit≤ tt; room₁ = lit≤ tt; room₂ = n; room₃ = lit≤ tt }
+well sent k a n = record { kind = k; addressed = a; few = omega arith; pulses = lit≤ tt }
 
 pub formed : AllFormed (first ++ second)
 formed = (
@@ -89,22 +89,22 @@ pub record Shown : Type 0 where
   -- executed, executed, protected, no data; executed three times, protected
   pub answers : numbers (history (first ++ second) start) ≡ 0 ∷ 0 ∷ 17 ∷ 15 ∷ 0 ∷ 0 ∷ 0 ∷ 17 ∷ []
   -- 7F and F0 and AA; a byte of the protected sector stays
-  pub anded : getD (run first start .array) 16 0 ≡ 0x20
-  pub protects : getD (run first start .array) 0xC00 0 ≡ 0x7F
+  pub anded : getD (runJobs first start .array) 16 0 ≡ 0x20
+  pub protects : getD (runJobs first start .array) 0xC00 0 ≡ 0x7F
   -- FF after the erase, and 5A, and 3C; its neighbour stays FF, and the next sector as it was
-  pub anew : getD (run (first ++ second) start .array) 16 0 ≡ 0x18
-  pub erases : getD (run (first ++ second) start .array) 17 0 ≡ 0xFF
-  pub keeps : getD (run (first ++ second) start .array) 1024 0 ≡ 0x7F
+  pub anew : getD (runJobs (first ++ second) start .array) 16 0 ≡ 0x18
+  pub erases : getD (runJobs (first ++ second) start .array) 17 0 ≡ 0xFF
+  pub keeps : getD (runJobs (first ++ second) start .array) 1024 0 ≡ 0x7F
   -- the formula's own values
   pub formula-first : endsAs (figuresOf 0) 16 (history first start) 0x7F ≡ 0x20
   pub formula : endsAs (figuresOf 0) 16 (history (first ++ second) start) 0x7F ≡ 0x18
   pub later : programmedBytes (figuresOf 0) 16 (afterLastErase (figuresOf 0) 16 (history (first ++ second) start)) ≡ 0x5A ∷ 0x3C ∷ []
   -- a program and an erase of one sector may not change places
-  pub erase-last : getD (run (programs 0x00 0x10 0xF0 ∷ job (0xD8 ∷ 0x00 ∷ 0x00 ∷ 0x00 ∷ []) ∷ []) start .array) 16 0 ≡ 0xFF
-  pub erase-first : getD (run (job (0xD8 ∷ 0x00 ∷ 0x00 ∷ 0x00 ∷ []) ∷ programs 0x00 0x10 0xF0 ∷ []) start .array) 16 0 ≡ 0xF0
+  pub erase-last : getD (runJobs (programs 0x00 0x10 0xF0 ∷ job (0xD8 ∷ 0x00 ∷ 0x00 ∷ 0x00 ∷ []) ∷ []) start .array) 16 0 ≡ 0xFF
+  pub erase-first : getD (runJobs (job (0xD8 ∷ 0x00 ∷ 0x00 ∷ 0x00 ∷ []) ∷ programs 0x00 0x10 0xF0 ∷ []) start .array) 16 0 ≡ 0xF0
 
 -- computed by the checker
 pub shown : Shown
-unfolding enabled carriedOut rested disabled transacted outcomeOf verdictOf decided refusal ignorance rowOf addressOf asNeeded inProtected protectedOf columnOf uncelled cycleOf touched changed turned running moded latched waited waitCall soundAnswer sound latchAt figuresOf mapAt programmed erased blank memory.latched reached landed
+unfolding sent transacted outcomeOf verdictOf decided refusal ignorance rowOf addressOf asNeeded inProtected protectedOf columnOf uncelled cycleOf touched changed turned running moded latched waited waitCall soundAnswer sound latchAt figuresOf mapAt programmed erased blank memory.latched reached landed
 shown =
     record { erase-last = refl; erase-first = refl; answers = refl; anded = refl; protects = refl; erases = refl; keeps = refl; anew = refl; later = refl; formula = refl; formula-first = refl }
