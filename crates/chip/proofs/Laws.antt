@@ -9,7 +9,7 @@ use native.Mathlib.Nat.{le-refl, le-of-lt, zero-add, mod-eq-of-lt}
 use native.Mathlib.Omega.{arith}
 use borrow.Author.Tests.{lt-ltb, le-ltb, lt-leb, leb-true, leb-false}
 use lib.Dec.{eqb, leb, ltb}
-use lib.ListN.{length, getD, take, drop, length-drop, drop-of-length-le}
+use lib.ListN.{length, getD, take, drop, replicate, length-drop, length-replicate, drop-of-length-le}
 use lib.Seq.{take-all}
 use Rattle.slices.specs.Changed.{mapAt, window, put, sumFrom, sumAt}
 use Rattle.slices.proofs.Maps.{map-agree}
@@ -22,13 +22,14 @@ use Rattle.device.specs.Device.{statusByte, onZero, zeroRecord, delivered}
 use Rattle.device.specs.declared.Checked.{Checked}
 use Rattle.chip.specs.declared.table.Row.{Row}
 use Rattle.chip.specs.declared.table.Instruction.{Instruction}
+use Rattle.chip.specs.declared.line.Span.{Span}
 use Rattle.chip.specs.declared.answers.Verdict.{Verdict}
 use Rattle.chip.specs.declared.Answer.{Answer}
-use Rattle.chip.specs.Table.{addressOf, instructionIn}
+use Rattle.chip.specs.Table.{addressOf, onlyIf, instructionIn}
 use Rattle.chip.specs.Answers.{refusal, ignorance, decided, verdictOf, deliveryAnswer}
-use Rattle.chip.specs.Line.{Driven, silent, drives, onLine, kth, heardRow, driven, lined, driving, drivingAt, firstFrom, firstOf, countOf}
-use Rattle.chip.specs.Outcome.{Outcome, outcomeOf, transacted, Meets, Transacted, Delivered}
-use Rattle.chip.proofs.Lines.{driven-from, driven-before}
+use Rattle.chip.specs.Line.{Driven, silent, drives, onLine, kth, heard, heardRow, driven, lined, driving, drivingAt, firstFrom, firstOf, countOf, spanOf}
+use Rattle.chip.specs.Outcome.{Outcome, outcomeOf, transacted, Meets, Transacted, Foreseen, Delivered}
+use Rattle.chip.proofs.Lines.{driven-from, driven-before, span-is}
 
 le-or-le : (m n : ℕ) (b : Bool) → leb m n ≡ b → (m ≤ n) ⊎ (n ≤ m)
 le-or-le m n true e = inl (leb-true m n e)
@@ -98,8 +99,8 @@ count-le d array sent = sum-within 0 (λ i x. drivingAt d array sent i) sent (λ
 -- ---- the promise, by the verdict
 
 -- what the code judges of the instruction that it read is the verdict
-pub verdict-so : (d : Device) (array sent : List ℕ) (pulses : ℕ) (w : Bool) (response : List ℕ) (i : Instruction) {v : Verdict} → i ≡ instructionIn d sent
-    → v ≡ decided (refusal d (length array) (length sent) pulses (length response)) (ignorance d (i .row) (length sent) pulses w (i .address)) → verdictOf d (length array) sent pulses w (length response) ≡ v
+pub verdict-so : (d : Device) (array : ℕ) (sent : List ℕ) (pulses : ℕ) (w : Bool) (response : ℕ) (i : Instruction) {v : Verdict} → i ≡ instructionIn d sent
+    → v ≡ decided (refusal d array (length sent) pulses response) (ignorance d (i .row) (length sent) pulses w (i .address)) → verdictOf d array sent pulses w response ≡ v
 unfolding verdictOf
 verdict-so d array sent pulses w response i e h = sym (h ∙ rw e)
 
@@ -108,6 +109,39 @@ pub by-verdict : (d : Device) (array sent : List ℕ) (pulses : ℕ) (w : Bool) 
     → Transacted d array sent pulses w response a next array′ response′
 unfolding transacted
 by-verdict d array sent pulses w response v e m = rw e m
+
+-- ---- a transaction foreseen
+
+module _ (d : Device) (array : ℕ) (sent : List ℕ) (pulses : ℕ) (w : Bool) (response : ℕ) where
+  pub foreseen-by : (v : Verdict) → verdictOf d array sent pulses w response ≡ v → {a : Answer} {next : Device}
+      → ((xs r : List ℕ) → let o = outcomeOf v d xs sent r in (a .number ≡ o .answer .number) × (a .first ≡ o .answer .first) × (a .count ≡ o .answer .count) × (next ≡ o .device))
+      → Foreseen d array sent pulses w response a next
+  unfolding transacted
+  foreseen-by v e p =
+      record { number = λ xs r l m. rw (l, m, e) (p xs r .0); first = λ xs r l m. rw (l, m, e) (p xs r .1); count = λ xs r l m. rw (l, m, e) (p xs r .2); device = λ xs r l m. rw (l, m, e) (p xs r .3) }
+
+  -- its promise admits one outcome only
+  pub one-foresight : {a b : Answer} {next other : Device} → Foreseen d array sent pulses w response a next → Foreseen d array sent pulses w response b other → (a ≡ b) × (next ≡ other)
+  one-foresight {a} {b} p q =
+      let xs : List ℕ = replicate array 0 in
+      let r : List ℕ = replicate response 0 in
+      let l : length xs ≡ array = length-replicate array 0 in
+      let m : length r ≡ response = length-replicate response 0 in
+      (same (p .number xs r l m ∙ sym (q .number xs r l m)) (p .first xs r l m ∙ sym (q .first xs r l m)) (p .count xs r l m ∙ sym (q .count xs r l m)), p .device xs r l m ∙ sym (q .device xs r l m))
+    where
+      same : a .number ≡ b .number → a .first ≡ b .first → a .count ≡ b .count → a ≡ b
+      same e f g =
+          let x : _≡_ {A = Answer} (record { number = a .number; first = a .first; count = a .count }) (record { number = b .number; first = b .first; count = b .count }) = rw (e, f, g) in
+          x
+
+-- where something is driven, as the code finds it, whatever the array
+pub span-at : (d : Device) (sent : List ℕ) (i : Instruction) {s : Span} → i ≡ instructionIn d sent → s ≡ spanOf (onlyIf (heard d (i .row)) (i .row) .drive) (onlyIf (heard d (i .row)) (i .row) .from) (length sent) → (xs : List ℕ)
+    → (s .first ≡ firstOf d xs sent) × (s .count ≡ countOf d xs sent)
+unfolding heardRow
+span-at d sent i {s} e h xs =
+    let k : s ≡ spanOf (heardRow d sent .drive) (heardRow d sent .from) (length sent) = h ∙ rw e in
+    let b = span-is d xs sent (heardRow d sent .drive) refl in
+    (ap (λ (t : Span). t .first) k ∙ b .0, ap (λ (t : Span). t .count) k ∙ b .1)
 
 -- the promise admits one outcome only
 pub one-outcome : {o : Outcome} {a b : Answer} {next other : Device} {array′ array″ response′ response″ : List ℕ}

@@ -6,4 +6,5 @@ pub mod Records
 pub mod Laws
 pub mod Rules
 pub mod Events
+pub mod Reading
 pub mod Worked

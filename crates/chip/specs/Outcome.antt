@@ -12,6 +12,9 @@ use Rattle.device.specs.Device.{onZero, zeroRecord, delivered}
 use Rattle.chip.specs.declared.answers.Verdict.{Verdict}
 use Rattle.chip.specs.declared.answers.Verdict.the-variants.{Refused, Ignored, Executed}
 use Rattle.chip.specs.declared.Answer.{Answer}
+use Rattle.chip.specs.declared.Done.{Done}
+use Rattle.chip.specs.declared.table.Instruction.{Instruction}
+use Rattle.chip.specs.declared.line.Span.{Span}
 use Rattle.chip.specs.Table.{addressOf, rowIn}
 use Rattle.chip.specs.Answers.{deliveryAnswer, verdictOf}
 use Rattle.chip.specs.Line.{lined, firstOf, countOf}
@@ -29,6 +32,10 @@ pub record Outcome : Type 0 where
 -- an answer with nothing driven
 abbrev pub bare : ℕ → Answer
 bare k = record { number = k; first = 0; count = 0 }
+
+-- an executed transaction's answer and next record, as the code makes them: from where something is driven, and from byte 1
+abbrev pub executedWith : Device → Instruction → Span → ℕ → Done
+executedWith d i s b = record { answer = record { number = 0; first = s .first; count = s .count }; device = turned (i .row .turn) (i .figures) d b }
 
 -- refused: record, array and response unchanged. Ignored: record and array stay, the first n response bytes are FF. Executed: answer 0, and what the instruction does
 unfoldable pub outcomeOf : Verdict → Device → List ℕ → List ℕ → List ℕ → Outcome
@@ -58,6 +65,15 @@ pub record Meets (o : Outcome) (a : Answer) (next : Device) (array′ response�
 -- what a transaction call promises
 abbrev pub Transacted : Device → List ℕ → List ℕ → ℕ → Bool → List ℕ → Answer → Device → List ℕ → List ℕ → Type 0
 Transacted d array sent pulses w response = Meets (transacted d array sent pulses w response)
+
+-- ---- a transaction foreseen
+
+-- number, first, count and next record of a transaction, whatever bytes stand in an array and a response of these lengths
+pub record Foreseen (d : Device) (array : ℕ) (sent : List ℕ) (pulses : ℕ) (w : Bool) (response : ℕ) (a : Answer) (next : Device) : Type 0 where
+  pub number : (xs r : List ℕ) → length xs ≡ array → length r ≡ response → a .number ≡ transacted d xs sent pulses w r .answer .number
+  pub first : (xs r : List ℕ) → length xs ≡ array → length r ≡ response → a .first ≡ transacted d xs sent pulses w r .answer .first
+  pub count : (xs r : List ℕ) → length xs ≡ array → length r ≡ response → a .count ≡ transacted d xs sent pulses w r .answer .count
+  pub device : (xs r : List ℕ) → length xs ≡ array → length r ≡ response → next ≡ transacted d xs sent pulses w r .device
 
 -- ---- a delivery
 

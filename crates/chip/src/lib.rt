@@ -4,7 +4,7 @@ ghost use Prim.Native.Nat.{_≤_};
 ghost use lib.ListN.{length};
 ghost use Rattle.chip.specs.Table.{instructionIn};
 ghost use Rattle.chip.specs.Answers.{deliveryAnswer};
-ghost use Rattle.chip.specs.Outcome.{bare, outcomeOf, Meets, Transacted, Delivered};
+ghost use Rattle.chip.specs.Outcome.{bare, executedWith, outcomeOf, Meets, Transacted, Foreseen, Delivered};
 ghost use Rattle.chip.specs.declared.answers.Verdict.the-variants.{Executed};
 
 pub mod answers;
@@ -16,6 +16,7 @@ mod table;
 use answers::Verdict;
 use device::Checked;
 use device::Device;
+use line::Span;
 use parts::Figures;
 use table::Instruction;
 
@@ -43,6 +44,25 @@ fn bare(number: u8) -> Answer
     }
 }
 
+// An executed transaction's answer and next record: what it drives, and its byte 1.
+fn executed(device: Device, asked: Instruction, span: Span, b: u8) -> Done
+    requires { ⌜ (span .first ≤ 65536) × (span .count ≤ 65536) ⌝ }
+    ensures { λ o. ⌜ o ≡ executedWith device asked span b ⌝ }
+{
+    let row = asked.row;
+    let turn = row.turn;
+    let next = change::next_record(turn, asked.figures, device, b);
+    let answer = Answer {
+        number: 0,
+        first: span.first as u32,
+        count: span.count as u32,
+    };
+    Done {
+        answer,
+        device: next,
+    }
+}
+
 // Executes a transaction: first the line, then the array, then the record.
 fn execute(
     device: Device,
@@ -59,17 +79,7 @@ fn execute(
     let turn = row.turn;
     let span = line::respond(device, asked, array, sent, response);
     change::carry_out(turn, figures, asked.address, sent, array);
-    let b = slices::byte_at(sent, 1);
-    let next = change::next_record(turn, figures, device, b);
-    let answer = Answer {
-        number: 0,
-        first: span.first as u32,
-        count: span.count as u32,
-    };
-    Done {
-        answer,
-        device: next,
-    }
+    executed(device, asked, span, slices::byte_at(sent, 1))
 }
 
 // One transaction: the bytes sent, the further pulses, and the level of W as Chip Select rises.
@@ -106,6 +116,35 @@ pub fn transact(
         }
         Verdict::Executed => {
             return execute(device, asked, array, sent, response);
+        }
+    }
+}
+
+// What a transaction would answer on an array and a response of these lengths, and the record that it would leave. Nothing is touched.
+pub fn foreseen(
+    device: Device,
+    array: usize,
+    sent: &[u8],
+    pulses: u32,
+    w: bool,
+    response: usize,
+) -> Done
+    ensures { λ o. ⌜ Foreseen device array (now (sent .entry)) pulses w response (o .answer) (o .device) ⌝ }
+{
+    let asked = table::read_instruction(device, sent);
+    let verdict = answers::judge(device, asked, array, sent.len(), pulses, w, response);
+    match verdict {
+        Verdict::Refused(k) => {
+            let answer = bare(k);
+            return Done { answer, device };
+        }
+        Verdict::Ignored(k) => {
+            let answer = bare(k);
+            return Done { answer, device };
+        }
+        Verdict::Executed => {
+            let span = line::span_driven(device, asked, sent.len());
+            return executed(device, asked, span, slices::byte_at(sent, 1));
         }
     }
 }

@@ -88,6 +88,15 @@ fn row_heard(device: Device, asked: Instruction) -> Row
     row.only_if(is_heard(device, row))
 }
 
+// Where a transaction of n bytes drives, which no byte of the array changes.
+pub(crate) fn span_driven(device: Device, asked: Instruction, n: usize) -> Span
+    ensures { λ r. ⌜ r ≡ spanOf (onlyIf (heard device (asked .row)) (asked .row) .drive) (onlyIf (heard device (asked .row)) (asked .row) .from) n ⌝ }
+{
+    let row = row_heard(device, asked);
+    let how = row.drive;
+    span_of(how, row.from, n)
+}
+
 // The response line.
 pub(crate) fn respond(
     device: Device,

@@ -6,3 +6,4 @@ pub mod Parts
 pub mod Ands
 pub mod Sums
 pub mod Outcomes
+pub mod Laid

@@ -1,6 +1,7 @@
 -- `chip::transact` meets its contract.
-use mathlib.Core.Path.{refl, sym, _∙_}
+use mathlib.Core.Path.{refl, _∙_}
 use native.Mathlib.Nat.{zero-add}
+use lib.ListN.{length}
 use Rattle.chip.specs.Outcome.{outcomeOf}
 use Rattle.chip.proofs.Laws.{by-verdict, verdict-so}
 use Rattle.chip.proofs.Verdicts.{executed}
@@ -16,7 +17,7 @@ returns : tie.Need-returns
 unfolding outcomeOf
 returns c =
     let a = c .before .before .before .before .before .before .before .before .before .args in
-    by-verdict (a .device) (a .array .now) (a .sent .now) (a .pulses) (a .w) (a .response .now) (Refused _) (verdict-so (a .device) (a .array .now) (a .sent .now) (a .pulses) (a .w) (a .response .now) _ (c .before .before .before .before .before .read-instruction .ensures) (c .before .before .before .before .judge .ensures) ∙ c .before .before .verdict .given .1)
+    by-verdict (a .device) (a .array .now) (a .sent .now) (a .pulses) (a .w) (a .response .now) (Refused _) (verdict-so (a .device) (length (a .array .now)) (a .sent .now) (a .pulses) (a .w) (length (a .response .now)) _ (c .before .before .before .before .before .read-instruction .ensures) (c .before .before .before .before .judge .ensures) ∙ c .before .before .verdict .given .1)
     (record { answer = c .bare .ensures; device = refl; memory = refl; line = refl })
 
 returns-2 : tie.Need-returns-2
@@ -24,20 +25,20 @@ unfolding outcomeOf
 returns-2 c =
     let b = c .before .before .before .before .before .before .before .before in
     let a = b .before .before .before .before .before .args in
-    by-verdict (a .device) (a .array .now) (a .sent .now) (a .pulses) (a .w) (a .response .now) (Ignored _) (verdict-so (a .device) (a .array .now) (a .sent .now) (a .pulses) (a .w) (a .response .now) _ (b .before .read-instruction .ensures) (b .judge .ensures) ∙ c .before .before .before .before .before .before .verdict2 .given .1)
+    by-verdict (a .device) (a .array .now) (a .sent .now) (a .pulses) (a .w) (a .response .now) (Ignored _) (verdict-so (a .device) (length (a .array .now)) (a .sent .now) (a .pulses) (a .w) (length (a .response .now)) _ (b .before .read-instruction .ensures) (b .judge .ensures) ∙ c .before .before .before .before .before .before .verdict2 .given .1)
     (record { answer = c .bare2 .ensures; device = refl; memory = refl; line = c .before .before .before .fill-part .ensures ∙ rw zero-add })
 
 execute-requires : tie.Need-execute-requires
 execute-requires c κs =
     let a = c .before .before .before .before .before .before .before .before .before .args in
     let i = c .before .before .before .before .before .read-instruction .ensures in
-    (i, executed _ _ _ _ _ _ (verdict-so (a .device) (a .array .now) (a .sent .now) (a .pulses) (a .w) (a .response .now) _ i (c .before .before .before .before .judge .ensures) ∙ c .before .before .enum-told .given .1) .0 .short)
+    (i, executed _ _ _ _ _ _ (verdict-so (a .device) (length (a .array .now)) (a .sent .now) (a .pulses) (a .w) (length (a .response .now)) _ i (c .before .before .before .before .judge .ensures) ∙ c .before .before .enum-told .given .1) .0 .short)
 
 returns-3 : tie.Need-returns-3
 returns-3 c =
     let b = c .before .before .before .before .before .before .before .before .before in
     let a = b .before .before .before .before .before .args in
-    by-verdict (a .device) (a .array .now) (a .sent .now) (a .pulses) (a .w) (a .response .now) Executed (verdict-so (a .device) (a .array .now) (a .sent .now) (a .pulses) (a .w) (a .response .now) _ (b .before .read-instruction .ensures) (b .judge .ensures) ∙ c .before .before .before .before .before .before .before .enum-told .given .1) (c .before .before .before .before .execute .ensures)
+    by-verdict (a .device) (a .array .now) (a .sent .now) (a .pulses) (a .w) (a .response .now) Executed (verdict-so (a .device) (length (a .array .now)) (a .sent .now) (a .pulses) (a .w) (length (a .response .now)) _ (b .before .read-instruction .ensures) (b .judge .ensures) ∙ c .before .before .before .before .before .before .before .enum-told .given .1) (c .before .before .before .before .execute .ensures)
 
 pub transact-spec : {M : Type 1} → statement M
 transact-spec =
