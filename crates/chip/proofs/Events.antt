@@ -19,7 +19,7 @@ use Rattle.chip.specs.declared.Answer.{Answer}
 use Rattle.chip.specs.Table.{addressOf, rowIn}
 use Rattle.chip.specs.Answers.{refusal, ignorance, decided, verdictOf}
 use Rattle.chip.specs.Line.{heardRow, lined, firstOf, countOf}
-use Rattle.chip.specs.Outcome.{Outcome, outcomeOf, transacted}
+use Rattle.chip.specs.Outcome.{outcomeOf, transacted}
 use Rattle.chip.specs.Events.{Chip, Good, Event, sends, waits, starts, Told, sent, after, told, run, story}
 use Rattle.chip.proofs.Lines.{span-is}
 use Rattle.chip.proofs.Verdicts.{Decision, refuses, ignores, executes, verdict-is}

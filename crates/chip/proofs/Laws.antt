@@ -4,11 +4,11 @@ use mathlib.Core.Path.{_≡_, refl, sym, ap, _∙_}
 use mathlib.Core.Bool.{Bool, true, false, cond}
 use mathlib.Core.List.{List, [], _∷_}
 use mathlib.Core.Logic.{_⊎_, inl, inr}
-use Prim.Native.Nat.{ℕ, zero, suc, _+_, _-_, _%_, _≤_, _<_, min}
+use Prim.Native.Nat.{ℕ, suc, _+_, _-_, _%_, _≤_, _<_, min}
 use native.Mathlib.Nat.{le-refl, le-of-lt, zero-add, mod-eq-of-lt}
 use native.Mathlib.Omega.{arith}
 use borrow.Author.Tests.{lt-ltb, le-ltb, lt-leb, leb-true, leb-false}
-use lib.Dec.{eqb, leb, ltb}
+use lib.Dec.{eqb, leb}
 use lib.ListN.{length, getD, take, drop, replicate, length-drop, length-replicate, drop-of-length-le}
 use lib.Seq.{take-all}
 use Rattle.slices.specs.Changed.{mapAt, window, put, sumFrom, sumAt}
@@ -16,7 +16,7 @@ use Rattle.slices.proofs.Maps.{map-agree}
 use Rattle.slices.proofs.Choices.{other}
 use Rattle.slices.proofs.Windows.{window-more, window-rest, window-ext}
 use Rattle.parts.specs.declared.Figures.{Figures}
-use Rattle.parts.specs.Parts.{figuresOf, knownPart}
+use Rattle.parts.specs.Parts.{figuresOf}
 use Rattle.device.specs.declared.Device.{Device}
 use Rattle.device.specs.Device.{statusByte, onZero, zeroRecord, delivered}
 use Rattle.device.specs.declared.Checked.{Checked}

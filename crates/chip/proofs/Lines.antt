@@ -22,16 +22,15 @@ use Rattle.device.specs.declared.Device.{Device}
 use Rattle.device.specs.Device.{statusByte}
 use Rattle.device.specs.declared.cycle.Kind.{Kind}
 use Rattle.chip.specs.declared.table.Turn.{Turn}
-use Rattle.chip.specs.declared.table.Turn.the-variants.{Keep, Wake}
 use Rattle.chip.specs.declared.table.Drive.{Drive}
 use Rattle.chip.specs.declared.table.Drive.the-variants.{Nothing, Identification, Status, Array, Signature}
 use Rattle.chip.specs.declared.table.Row.{Row}
 use Rattle.chip.specs.declared.line.Span.{Span}
 use Rattle.chip.specs.declared.answers.Verdict.{Verdict}
-use Rattle.chip.specs.Table.{longest, order, reading, write, unknown, rowOf, addressOf, rowIn, onStart}
+use Rattle.chip.specs.Table.{longest, order, write, unknown, rowOf, addressOf, rowIn, onStart}
 use Rattle.chip.specs.Answers.{refusal, isBusy, isDeep, isSettings, guardedIn, asNeeded, ignorance}
 use Rattle.chip.proofs.Rows.{rows-ind}
-use Rattle.chip.specs.Line.{Driven, silent, drives, onLine, kth, byRow, heard, heardRow, driven, lined, driving, drivingAt, firstFrom, firstOf, countOf, noSpan, fromOn, spanOf}
+use Rattle.chip.specs.Line.{Driven, silent, drives, onLine, kth, byRow, heard, heardRow, driven, lined, drivingAt, firstFrom, firstOf, countOf, noSpan, fromOn, spanOf}
 use Rattle.chip.specs.Outcome.{Outcome, outcomeOf, transacted}
 use Rattle.chip.proofs.Verdicts.{Host, Decision, refuses, ignores, executes, verdict-is, not-refused}
 

@@ -15,7 +15,6 @@ use Rattle.device.specs.declared.Mode.the-variants.{Standby}
 use Rattle.device.specs.declared.Device.{Device}
 use Rattle.chip.specs.declared.table.Turn.the-variants.{Keep}
 use Rattle.chip.specs.declared.table.Drive.the-variants.{Array}
-use Rattle.chip.specs.declared.table.Row.{Row}
 use Rattle.chip.specs.declared.answers.Verdict.the-variants.{Executed}
 use Rattle.chip.specs.Table.{reading, rowOf, addressOf, rowIn}
 use Rattle.chip.specs.Answers.{ignorance, asNeeded, decided, verdictOf}

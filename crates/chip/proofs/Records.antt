@@ -1,11 +1,11 @@
 -- What instructions, waiting and power-up do to a record: a sound one stays sound, and who keeps settings, part and durations.
 -- Assumes nothing.
 use mathlib.Core.Path.{_≡_, refl, sym, _∙_}
-use mathlib.Core.Bool.{Bool, true, false, cond, false≢true}
-use Prim.Native.Nat.{ℕ, zero, suc, _-_, _/_, _%_}
+use mathlib.Core.Bool.{Bool, true, false, false≢true}
+use Prim.Native.Nat.{ℕ, _-_, _/_, _%_}
 use native.Mathlib.Omega.{arith}
-use borrow.Author.Tests.{eqb-true, le-leb}
-use lib.Dec.{eqb, leb, ltb}
+use borrow.Author.Tests.{le-leb}
+use lib.Dec.{leb, ltb}
 use Rattle.parts.specs.declared.Figures.{Figures}
 use Rattle.parts.specs.Parts.{figuresOf}
 use Rattle.parts.proofs.Laws.{figures-ind}
@@ -16,7 +16,7 @@ use Rattle.device.specs.declared.Device.{Device}
 use Rattle.device.specs.declared.cycle.Kind.{Kind}
 use Rattle.device.specs.declared.cycle.Kind.the-variants.{Settings, Page, Sector, All}
 use Rattle.device.specs.Cycles.{durationOf}
-use Rattle.device.specs.Device.{moded, settled, running, latchAt, rangedOf, sound, busyBit, waitedIn, waited, poweredUp, soundAnswer, onZero, waitCall, powerUpCall}
+use Rattle.device.specs.Device.{moded, settled, running, latchAt, rangedOf, sound, busyBit, waitedIn, waited, poweredUp, soundAnswer, waitCall, powerUpCall}
 use Rattle.device.specs.Device as record-is
 use Rattle.device.proofs.Sound.{sound-has, standby-sound, deep-sound, latched-sound, settled-sound, running-sound, waited-sound, powered-sound}
 use Rattle.chip.specs.declared.table.Turn.{Turn}

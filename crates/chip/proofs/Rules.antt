@@ -31,7 +31,7 @@ use Rattle.chip.specs.declared.table.Row.{Row}
 use Rattle.chip.specs.declared.Answer.{Answer}
 use Rattle.chip.specs.declared.answers.Verdict.{Verdict}
 use Rattle.chip.specs.declared.answers.Verdict.the-variants.{Refused, Ignored, Executed}
-use Rattle.chip.specs.Table.{addressOf, rowIn, onStart}
+use Rattle.chip.specs.Table.{addressOf, rowIn}
 use Rattle.chip.specs.Answers.{refusal, isBusy, isDeep, writesSettings, guarded, asNeeded, ignorance}
 use Rattle.chip.specs.Line.{Driven, onLine, kth, identification, byRow, heardRow, driven, lined}
 use Rattle.chip.specs.Change.{cycleOf, changed, asItWas, turned}

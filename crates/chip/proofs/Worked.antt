@@ -5,7 +5,7 @@ use mathlib.Core.Bool.{Bool, true, _&&_}
 use mathlib.Core.List.{List, [], _∷_}
 use Prim.Native.Nat.{ℕ}
 use lib.Dec.{T, eqb}
-use lib.ListN.{length, getD, replicate, length-replicate}
+use lib.ListN.{length, getD, length-replicate}
 use Rattle.slices.specs.Changed.{mapAt, window, sumAt}
 use Rattle.memory.specs.Memory as memory-is
 use Rattle.parts.specs.Parts.{figuresOf}

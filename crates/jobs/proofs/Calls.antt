@@ -1,8 +1,8 @@
 -- One job as a call: what its steps give, and that it is the job of the theorems.
 -- Assumes nothing.
-use mathlib.Core.Path.{_≡_, refl, sym, ap, _∙_}
+use mathlib.Core.Path.{_≡_, refl, _∙_}
 use mathlib.Core.Bool.{Bool}
-use mathlib.Core.List.{List, []}
+use mathlib.Core.List.{List}
 use Prim.Native.Nat.{ℕ, zero, suc, _≤_}
 use lib.ListN.{length}
 use Rattle.device.specs.declared.Device.{Device}
@@ -11,10 +11,10 @@ use Rattle.device.specs.Device.{waitCall}
 use Rattle.chip.specs.declared.Answer.{Answer}
 use Rattle.chip.specs.Answers.{refusal}
 use Rattle.chip.specs.Outcome.{Outcome, bare, outcomeOf, Transacted}
-use Rattle.chip.specs.Events.{Chip, Good, after, run}
+use Rattle.chip.specs.Events.{Chip, after}
 use Rattle.chip.proofs.Events.{no-refusal, after-good, any-response}
-use Rattle.jobs.specs.Jobs.{Job, longestCycle, enable, rest, disable, afterJob, answered, AtRest, WellFormed}
-use Rattle.jobs.specs.Call.{jobOf, carriedWith, endedAfter, fourCalls, jobbed, Jobbed, alone}
+use Rattle.jobs.specs.Jobs.{Job, longestCycle, enable, rest, afterJob, answered, AtRest, WellFormed}
+use Rattle.jobs.specs.Call.{jobOf, jobbed, Jobbed, alone}
 
 module _ (d : Device) (xs sent : List ℕ) (p : ℕ) (w : Bool) (r : List ℕ) where
   -- a host-side number

@@ -1,7 +1,7 @@
 -- The numbers of every call's answer come apart again, by the bits that docs/C-CALLS.md names, without a premise.
 -- Assumes nothing.
-use mathlib.Core.Path.{_≡_, refl, sym, ap, _∙_}
-use mathlib.Core.Bool.{cond, not, _&&_}
+use mathlib.Core.Path.{_≡_}
+use mathlib.Core.Bool.{not, _&&_}
 use mathlib.Core.List.{List}
 use Prim.Native.Nat.{ℕ, _/_, _%_, _≤_, _<_}
 use native.Mathlib.Omega.{arith}
@@ -11,12 +11,11 @@ use Rattle.slices.proofs.Choices.{cond-ind, zero-ind}
 use Rattle.parts.specs.Parts.{figuresOf, knownPart}
 use Rattle.device.specs.declared.Device.{Device}
 use Rattle.device.specs.declared.Checked.{Checked}
-use Rattle.device.specs.Device.{onZero, sound, rangedOf, waitCall, powerUpCall, soundAnswer}
+use Rattle.device.specs.Device.{sound, rangedOf, waitCall, powerUpCall, soundAnswer}
 use Rattle.device.specs.Packing.{formed, fieldsOf, unpackAnswer, unpackOf}
 use Rattle.chip.specs.declared.Answer.{Answer}
-use Rattle.chip.specs.declared.answers.Verdict.the-variants.{Refused}
 use Rattle.chip.specs.Answers.{deliveryAnswer}
-use Rattle.chip.specs.Outcome.{Outcome, bare, outcomeOf, transacted}
+use Rattle.chip.specs.Outcome.{Outcome, bare, outcomeOf}
 use Rattle.chip.proofs.Rules.{Few, answer-few}
 use Rattle.pins.specs.Pins.{oddSamples, tooLong}
 use Rattle.pins.specs.Run.{runAnswer}

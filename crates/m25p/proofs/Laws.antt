@@ -1,7 +1,7 @@
 -- What the C calls give, by what unpacking answers; and that each promise admits one outcome only.
 -- Assumes nothing.
 use mathlib.Core.Path.{_≡_, refl, sym, ap, _∙_}
-use mathlib.Core.Bool.{Bool, true, false, cond, not, _&&_}
+use mathlib.Core.Bool.{Bool, true, not, _&&_}
 use mathlib.Core.List.{List}
 use Prim.Native.Nat.{ℕ, zero, suc}
 use borrow.Author.Tests.{eq-eqb, ne-eqb, not-false}
@@ -12,7 +12,7 @@ use Rattle.slices.proofs.Choices.{both, past, other}
 use Rattle.parts.specs.Parts.{figuresOf, knownPart}
 use Rattle.device.specs.declared.Device.{Device}
 use Rattle.device.specs.declared.Checked.{Checked}
-use Rattle.device.specs.Device.{onZero, sound, rangedOf, waited, waitCall, poweredUp, powerUpCall, soundAnswer, zeroRecord, delivered}
+use Rattle.device.specs.Device.{onZero, sound, rangedOf, waitCall, powerUpCall, soundAnswer, zeroRecord, delivered}
 use Rattle.device.specs.Packing.{packOf, packAnswer, Packed, unpackAnswer, unpackOf}
 use Rattle.device.proofs.Sound.{delivered-sound}
 use Rattle.device.proofs.Inverse.{opened}

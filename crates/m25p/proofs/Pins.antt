@@ -1,6 +1,6 @@
 -- What the C call of raw pins gives, by what unpacking answers; and that its promise admits one outcome only.
 -- Assumes nothing.
-use mathlib.Core.Path.{_≡_, refl, sym, ap, _∙_}
+use mathlib.Core.Path.{_≡_, sym, ap, _∙_}
 use mathlib.Core.List.{List}
 use Prim.Native.Nat.{ℕ}
 use lib.ListN.{length}
@@ -8,13 +8,12 @@ use Rattle.slices.specs.Changed.{mapAt, window}
 use Rattle.slices.proofs.Choices.{other}
 use Rattle.device.specs.declared.Device.{Device}
 use Rattle.device.specs.declared.Checked.{Checked}
-use Rattle.device.specs.Device.{onZero}
-use Rattle.device.specs.Packing.{packOf, unpackAnswer, unpackOf}
+use Rattle.device.specs.Packing.{unpackAnswer, unpackOf}
 use Rattle.chip.specs.Outcome.{bare}
 use Rattle.pins.specs.Run.{chipAfter, outputAt, runAnswer, Ran}
 use Rattle.m25p.specs.Calls.{packedAnswer, packedBy}
 use Rattle.m25p.specs.Pins.{pinsC, RanC}
-use Rattle.m25p.proofs.Laws.{named, written, kept}
+use Rattle.m25p.proofs.Laws.{named, kept}
 
 module _ (packed array samples output : List ℕ) where
   -- the packing is refused

@@ -8,7 +8,7 @@ use lib.ListN.{length}
 use Rattle.slices.specs.Changed.{mapAt, put}
 use Rattle.device.specs.declared.Device.{Device}
 use Rattle.device.specs.declared.Checked.{Checked}
-use Rattle.device.specs.Device.{onZero, waitCall, powerUpCall, delivered}
+use Rattle.device.specs.Device.{onZero, delivered}
 use Rattle.device.specs.Packing.{packOf, unpackAnswer, unpackOf}
 use Rattle.chip.specs.declared.Answer.{Answer}
 use Rattle.chip.specs.declared.answers.Verdict.the-variants.{Refused}

@@ -6,7 +6,7 @@
 --     programmed  byte x at place i after the page of an address was programmed: itself and its slot, bit by bit; other pages stay
 --     erased      byte x at place i after the sector of an address became FF
 --     rolled      what byte i of a read is, from an address on, over the last byte to byte 0; FF where there is no array
-use mathlib.Core.Bool.{Bool, true, false, cond, _&&_, _||_}
+use mathlib.Core.Bool.{Bool, false, cond, _||_}
 use mathlib.Core.List.{List, [], _∷_}
 use Prim.Native.Nat.{ℕ, _+_, _/_, _%_}
 use lib.ListN.{length, getD, set, replicate}

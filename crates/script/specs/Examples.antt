@@ -2,8 +2,7 @@
 use mathlib.Core.Path.{_≡_, refl}
 use mathlib.Core.Bool.{true, false}
 use mathlib.Core.List.{[], _∷_, _++_}
-use Prim.Native.Nat.{ℕ}
-use lib.ListN.{length, replicate}
+use lib.ListN.{replicate}
 use Rattle.script.specs.Text.{ascii}
 use Rattle.script.specs.declared.Command.the-variants.{Exchange, Wait, PowerUp, Malformed}
 use Rattle.script.specs.Lines.{digitOf, numberOf, isHex, isNumber, isExchange, isWait, isPowerUp, bytesOf, meaning}
