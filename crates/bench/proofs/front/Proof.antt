@@ -20,9 +20,6 @@ front-is xs n end e = go (leb n (length xs)) refl
     go true q = let t = leb-true n (length xs) q in ap (λ (k : ℕ). take k xs) (let z : end ≡ n = omega arith in z)
     go false q = let t = leb-false n (length xs) q in take-all end xs (omega arith) ∙ sym (take-all n xs (omega arith))
 
-least-requires : tie.Need-least-requires
-least-requires c κs = search needs
-
 slice-aggregate-result : tie.Need-slice-aggregate-result
 slice-aggregate-result c = sym (length-take-le _ _ (omega arith))
 
@@ -30,4 +27,4 @@ returns : tie.Need-returns
 returns c = front-is (c .before .before .before .args .s .now) (c .before .before .before .args .n) (c .before .least .result) (c .before .least .ensures)
 
 pub front-spec : {M : Type 1} → statement M
-front-spec = tie.close (tie.spec least-requires slice-aggregate-result returns)
+front-spec = tie.close (tie.spec (λ c κs. search needs) slice-aggregate-result returns)

@@ -6,28 +6,10 @@ use borrow.Author.Needs.{needs}
 use Rattle.chip.proofs.deliver.Statement.{statement}
 use Rattle.chip.proofs.deliver.Tie as tie
 
-delivery-number-requires : tie.Need-delivery-number-requires
-delivery-number-requires c κs = search needs
-
-zero-requires : tie.Need-zero-requires
-zero-requires c κs = search needs
-
 returns : tie.Need-returns
 returns c =
     let a = c .before .before .before .before .args in
     refused-delivery (a .part) (a .array .now) _ _ _ _ (c .before .before .delivery-number .result) (c .before .before .delivery-number .ensures) (c .before .if1 .taken) refl (c .zero .ensures)
-
-cast-small : tie.Need-cast-small
-cast-small c = search needs
-
-erase-all-requires : tie.Need-erase-all-requires
-erase-all-requires c κs = search needs
-
-delivered-requires : tie.Need-delivered-requires
-delivered-requires c κs = search needs
-
-same-length : tie.Need-same-length
-same-length c = search needs
 
 returns-2 : tie.Need-returns-2
 returns-2 c =
@@ -42,11 +24,11 @@ pub deliver-spec : {M : Type 1} → statement M
 deliver-spec =
     tie.close
     (tie.spec
-    delivery-number-requires
-    zero-requires
+    (λ c κs. search needs)
+    (λ c κs. search needs)
     returns
-    cast-small
-    erase-all-requires
-    delivered-requires
-    same-length
+    (λ c. search needs)
+    (λ c κs. search needs)
+    (λ c κs. search needs)
+    (λ c. search needs)
     returns-2)

@@ -9,36 +9,6 @@ use Rattle.chip.proofs.delivery_number.Tie as tie
 returns : tie.Need-returns
 returns c = sym (large _ _ _ _ _ _ (c .if1 .taken))
 
-cast-small : tie.Need-cast-small
-cast-small c = search needs
-
-known-requires : tie.Need-known-requires
-known-requires c κs = search needs
-
-of-requires : tie.Need-of-requires
-of-requires c κs = search needs
-
-ranged-requires : tie.Need-ranged-requires
-ranged-requires c κs = search needs
-
-ranged-requires-2 : tie.Need-ranged-requires-2
-ranged-requires-2 c κs = search needs
-
-ranged-requires-3 : tie.Need-ranged-requires-3
-ranged-requires-3 c κs = search needs
-
-ranged-requires-4 : tie.Need-ranged-requires-4
-ranged-requires-4 c κs = search needs
-
-when-requires : tie.Need-when-requires
-when-requires c κs = search needs
-
-when-requires-2 : tie.Need-when-requires-2
-when-requires-2 c κs = search needs
-
-when-requires-3 : tie.Need-when-requires-3
-when-requires-3 c κs = search needs
-
 returns-2 : tie.Need-returns-2
 unfolding deliveryAnswer
 returns-2 c =
@@ -51,14 +21,14 @@ delivery-number-spec =
     tie.close
     (tie.spec
     returns
-    cast-small
-    known-requires
-    of-requires
-    ranged-requires
-    ranged-requires-2
-    ranged-requires-3
-    ranged-requires-4
-    when-requires
-    when-requires-2
-    when-requires-3
+    (λ c. search needs)
+    (λ c κs. search needs)
+    (λ c κs. search needs)
+    (λ c κs. search needs)
+    (λ c κs. search needs)
+    (λ c κs. search needs)
+    (λ c κs. search needs)
+    (λ c κs. search needs)
+    (λ c κs. search needs)
+    (λ c κs. search needs)
     returns-2)

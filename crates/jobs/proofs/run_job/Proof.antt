@@ -5,35 +5,11 @@ use Rattle.jobs.proofs.Calls.{job-refused, job-passes}
 use Rattle.jobs.proofs.run_job.Statement.{statement}
 use Rattle.jobs.proofs.run_job.Tie as tie
 
-refused-requires : tie.Need-refused-requires
-refused-requires c κs = search needs
-
 returns : tie.Need-returns
 returns c =
     let b = c .before in
     let a = b .before .before .before .before .args in
     job-refused (a .device) (a .array .now) (a .sent .now) (a .pulses) (a .w) (a .response .now) (b .refused .result) (b .refused .ensures) (c .if1 .taken)
-
-longest-cycle-requires : tie.Need-longest-cycle-requires
-longest-cycle-requires c κs = search needs
-
-alone-requires : tie.Need-alone-requires
-alone-requires c κs = search needs
-
-transact-requires : tie.Need-transact-requires
-transact-requires c κs = search needs
-
-wait-requires : tie.Need-wait-requires
-wait-requires c κs = search needs
-
-alone-requires-2 : tie.Need-alone-requires-2
-alone-requires-2 c κs = search needs
-
-same-length : tie.Need-same-length
-same-length c = search needs
-
-same-length-2 : tie.Need-same-length-2
-same-length-2 c = search needs
 
 returns-2 : tie.Need-returns-2
 returns-2 c =
@@ -51,13 +27,13 @@ pub run-job-spec : {M : Type 1} → statement M
 run-job-spec =
     tie.close
     (tie.spec
-    refused-requires
+    (λ c κs. search needs)
     returns
-    longest-cycle-requires
-    alone-requires
-    transact-requires
-    wait-requires
-    alone-requires-2
-    same-length
-    same-length-2
+    (λ c κs. search needs)
+    (λ c κs. search needs)
+    (λ c κs. search needs)
+    (λ c κs. search needs)
+    (λ c κs. search needs)
+    (λ c. search needs)
+    (λ c. search needs)
     returns-2)

@@ -9,28 +9,10 @@ use borrow.Author.Needs.{needs}
 use Rattle.m25p.proofs.m25p_deliver.Statement.{statement}
 use Rattle.m25p.proofs.m25p_deliver.Tie as tie
 
-bare-requires : tie.Need-bare-requires
-bare-requires c κs = search needs
-
 returns : tie.Need-returns
 returns c =
     let a = c .before .before .before .before .args in
     another-length (a .packed .now) (a .part) (a .array .now) _ _ _ _ (c .before .if1 .taken) (c .bare .ensures)
-
-deliver-requires : tie.Need-deliver-requires
-deliver-requires c κs = search needs
-
-pack-requires : tie.Need-pack-requires
-pack-requires c κs = search needs
-
-bare-requires-2 : tie.Need-bare-requires-2
-bare-requires-2 c κs = search needs
-
-same-length : tie.Need-same-length
-same-length c = search needs
-
-same-length-2 : tie.Need-same-length-2
-same-length-2 c = search needs
 
 returns-2 : tie.Need-returns-2
 returns-2 c =
@@ -42,12 +24,6 @@ returns-2 c =
     delivers (a .packed .now) (a .part) (a .array .now) _ _ _ _ l (b .deliver .ensures) (c .bare2 .ensures ∙ ap (λ (k : ℕ). packedAnswer (bare k)) (sym z))
     (written _ (a .packed .now) z (d .0) (packs (c .before .before .before .pack .ensures) l (d .1)))
 
-bare-requires-3 : tie.Need-bare-requires-3
-bare-requires-3 c κs = search needs
-
-same-length-3 : tie.Need-same-length-3
-same-length-3 c = search needs
-
 returns-3 : tie.Need-returns-3
 returns-3 c =
     let b = c .before .before .before .before .before in
@@ -58,14 +34,14 @@ pub m25p-deliver-spec : {M : Type 1} → statement M
 m25p-deliver-spec =
     tie.close
     (tie.spec
-    bare-requires
+    (λ c κs. search needs)
     returns
-    deliver-requires
-    pack-requires
-    bare-requires-2
-    same-length
-    same-length-2
+    (λ c κs. search needs)
+    (λ c κs. search needs)
+    (λ c κs. search needs)
+    (λ c. search needs)
+    (λ c. search needs)
     returns-2
-    bare-requires-3
-    same-length-3
+    (λ c κs. search needs)
+    (λ c. search needs)
     returns-3)

@@ -14,38 +14,11 @@ use borrow.Author.Needs.{needs}
 use Rattle.m25p.proofs.m25p_pins.Statement.{statement}
 use Rattle.m25p.proofs.m25p_pins.Tie as tie
 
-unpack-requires : tie.Need-unpack-requires
-unpack-requires c κs = search needs
-
-bare-requires : tie.Need-bare-requires
-bare-requires c κs = search needs
-
-same-length : tie.Need-same-length
-same-length c = search needs
-
 returns : tie.Need-returns
 returns c =
     let a = c .before .before .before .before .before .before .before .before .before .args in
     let e = ap (λ (x : Checked). x .answer) (c .before .before .before .unpack .ensures) in
     refused (a .packed .now) (a .array .now) (a .samples .now) (a .output .now) (λ z. c .before .if1 .taken (e ∙ z)) (c .bare .ensures ∙ ap (λ (k : ℕ). packedAnswer (bare k)) e)
-
-run-requires : tie.Need-run-requires
-run-requires c κs = search needs
-
-pack-requires : tie.Need-pack-requires
-pack-requires c κs = search needs
-
-bare-requires-2 : tie.Need-bare-requires-2
-bare-requires-2 c κs = search needs
-
-same-length-2 : tie.Need-same-length-2
-same-length-2 c = search needs
-
-same-length-3 : tie.Need-same-length-3
-same-length-3 c = search needs
-
-same-length-4 : tie.Need-same-length-4
-same-length-4 c = search needs
 
 returns-2 : tie.Need-returns-2
 returns-2 c =
@@ -59,18 +32,6 @@ returns-2 c =
     let s = run-sound m (unpacked-sound (a .packed .now) z) in
     ran (a .packed .now) (a .array .now) (a .samples .now) (a .output .now) z m (c .bare2 .ensures ∙ ap (λ (k : ℕ). packedAnswer (bare k)) (sym y))
     (written _ (a .packed .now) y (next-is m y) (packs (c .before .before .before .pack .ensures) (opened (a .packed .now) z .long) s))
-
-bare-requires-3 : tie.Need-bare-requires-3
-bare-requires-3 c κs = search needs
-
-same-length-5 : tie.Need-same-length-5
-same-length-5 c = search needs
-
-same-length-6 : tie.Need-same-length-6
-same-length-6 c = search needs
-
-same-length-7 : tie.Need-same-length-7
-same-length-7 c = search needs
 
 returns-3 : tie.Need-returns-3
 returns-3 c =
@@ -86,19 +47,19 @@ pub m25p-pins-spec : {M : Type 1} → statement M
 m25p-pins-spec =
     tie.close
     (tie.spec
-    unpack-requires
-    bare-requires
-    same-length
+    (λ c κs. search needs)
+    (λ c κs. search needs)
+    (λ c. search needs)
     returns
-    run-requires
-    pack-requires
-    bare-requires-2
-    same-length-2
-    same-length-3
-    same-length-4
+    (λ c κs. search needs)
+    (λ c κs. search needs)
+    (λ c κs. search needs)
+    (λ c. search needs)
+    (λ c. search needs)
+    (λ c. search needs)
     returns-2
-    bare-requires-3
-    same-length-5
-    same-length-6
-    same-length-7
+    (λ c κs. search needs)
+    (λ c. search needs)
+    (λ c. search needs)
+    (λ c. search needs)
     returns-3)

@@ -12,33 +12,12 @@ use borrow.Author.Needs.{needs}
 use Rattle.m25p.proofs.m25p_wait.Statement.{statement}
 use Rattle.m25p.proofs.m25p_wait.Tie as tie
 
-unpack-requires : tie.Need-unpack-requires
-unpack-requires c κs = search needs
-
-bare-requires : tie.Need-bare-requires
-bare-requires c κs = search needs
-
-same-length : tie.Need-same-length
-same-length c = search needs
-
 returns : tie.Need-returns
 returns c =
     let u = c .before .before .before .unpack in
     let a = c .before .before .before .before .before .before .args in
     let e = ap (λ (x : Checked). x .answer) (u .ensures) in
     refused-on (λ d. waitCall d (a .ticks)) (a .packed .now) (λ z. c .before .if1 .taken (e ∙ z)) (c .bare .ensures ∙ ap (λ (k : ℕ). packedAnswer (bare k)) e)
-
-wait-requires : tie.Need-wait-requires
-wait-requires c κs = search needs
-
-pack-requires : tie.Need-pack-requires
-pack-requires c κs = search needs
-
-bare-requires-2 : tie.Need-bare-requires-2
-bare-requires-2 c κs = search needs
-
-same-length-2 : tie.Need-same-length-2
-same-length-2 c = search needs
 
 returns-2 : tie.Need-returns-2
 returns-2 c =
@@ -56,12 +35,12 @@ pub m25p-wait-spec : {M : Type 1} → statement M
 m25p-wait-spec =
     tie.close
     (tie.spec
-    unpack-requires
-    bare-requires
-    same-length
+    (λ c κs. search needs)
+    (λ c κs. search needs)
+    (λ c. search needs)
     returns
-    wait-requires
-    pack-requires
-    bare-requires-2
-    same-length-2
+    (λ c κs. search needs)
+    (λ c κs. search needs)
+    (λ c κs. search needs)
+    (λ c. search needs)
     returns-2)

@@ -8,26 +8,11 @@ use borrow.Author.Needs.{needs}
 use Rattle.memory.proofs.erase_sector.Statement.{statement}
 use Rattle.memory.proofs.erase_sector.Tie as tie
 
-erase-all-requires : tie.Need-erase-all-requires
-erase-all-requires c κs = search needs
-
-div-fill-part : tie.Need-div-fill-part
-div-fill-part c = search needs
-
 mul-fill-part : tie.Need-mul-fill-part
 mul-fill-part c = record { fits = omega (arith, div-mul-le-self (c .before .before .before .args .address) (c .before .before .before .args .size)) }
 
-fill-part-requires : tie.Need-fill-part-requires
-fill-part-requires c κs = search needs
-
-same-length : tie.Need-same-length
-same-length c = search needs
-
 returns : tie.Need-returns
 returns c = c .before .before .erase-all .ensures ∙ (sector-none (c .before .before .before .before .before .before .args .address) _ ∙ rw (c .before .before .before .before .if1 .taken))
-
-same-length-2 : tie.Need-same-length-2
-same-length-2 c = search needs
 
 returns-2 : tie.Need-returns-2
 returns-2 c = c .before .before .fill-part .ensures ∙ sector-is (c .before .before .before .before .before .before .args .size) (c .before .before .before .before .before .before .args .address) _ (omega arith)
@@ -36,11 +21,11 @@ pub erase-sector-spec : {M : Type 1} → statement M
 erase-sector-spec =
     tie.close
     (tie.spec
-    erase-all-requires
-    div-fill-part
+    (λ c κs. search needs)
+    (λ c. search needs)
     mul-fill-part
-    fill-part-requires
-    same-length
+    (λ c κs. search needs)
+    (λ c. search needs)
     returns
-    same-length-2
+    (λ c. search needs)
     returns-2)

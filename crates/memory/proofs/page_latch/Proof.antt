@@ -4,12 +4,9 @@ use Rattle.memory.specs.Memory.{blank}
 use Rattle.memory.proofs.page_latch.Statement.{statement}
 use Rattle.memory.proofs.page_latch.Tie as tie
 
-fill-slots-requires : tie.Need-fill-slots-requires
-fill-slots-requires c κs = search needs
-
 returns : tie.Need-returns
 unfolding blank
 returns c = c .fill-slots .ensures
 
 pub page-latch-spec : {M : Type 1} → statement M
-page-latch-spec = tie.close (tie.spec fill-slots-requires returns)
+page-latch-spec = tie.close (tie.spec (λ c κs. search needs) returns)

@@ -8,27 +8,6 @@ use borrow.Author.Needs.{needs}
 use Rattle.parts.proofs.protected.Statement.{statement}
 use Rattle.parts.proofs.protected.Tie as tie
 
-least-requires : tie.Need-least-requires
-least-requires c κs = search needs
-
-least-requires-2 : tie.Need-least-requires-2
-least-requires-2 c κs = search needs
-
-least-requires-3 : tie.Need-least-requires-3
-least-requires-3 c κs = search needs
-
-least-requires-4 : tie.Need-least-requires-4
-least-requires-4 c κs = search needs
-
-least-requires-5 : tie.Need-least-requires-5
-least-requires-5 c κs = search needs
-
-least-requires-6 : tie.Need-least-requires-6
-least-requires-6 c κs = search needs
-
-least-requires-7 : tie.Need-least-requires-7
-least-requires-7 c κs = search needs
-
 returns : tie.Need-returns
 unfolding uncelled
 returns c = rw (table-is, c .match .keys1)
@@ -70,13 +49,13 @@ pub protected-spec : {M : Type 1} → statement M
 protected-spec =
     tie.close
     (tie.spec
-    least-requires
-    least-requires-2
-    least-requires-3
-    least-requires-4
-    least-requires-5
-    least-requires-6
-    least-requires-7
+    (λ c κs. search needs)
+    (λ c κs. search needs)
+    (λ c κs. search needs)
+    (λ c κs. search needs)
+    (λ c κs. search needs)
+    (λ c κs. search needs)
+    (λ c κs. search needs)
     returns
     returns-2
     returns-3

@@ -18,9 +18,6 @@ returns-3 : tie.Need-returns-3
 unfolding digitOf
 returns-3 c = let x = c .before .before .before .args .b in rw (between-above 48 57 x (omega arith), between-below 65 70 x (omega arith), between-below 97 102 x (omega arith))
 
-sub-result : tie.Need-sub-result
-sub-result c = search needs
-
 returns-4 : tie.Need-returns-4
 unfolding digitOf
 returns-4 c = let x = c .before .before .before .before .args .b in rw (between-above 48 57 x (omega arith), between-in 65 70 x (omega arith) (omega arith)) (omega arith)
@@ -28,9 +25,6 @@ returns-4 c = let x = c .before .before .before .before .args .b in rw (between-
 returns-5 : tie.Need-returns-5
 unfolding digitOf
 returns-5 c = let x = c .before .before .before .before .before .args .b in rw (between-above 48 57 x (omega arith), between-above 65 70 x (omega arith), between-below 97 102 x (omega arith))
-
-sub-result-2 : tie.Need-sub-result-2
-sub-result-2 c = search needs
 
 returns-6 : tie.Need-returns-6
 unfolding digitOf
@@ -47,9 +41,9 @@ digit-spec =
     returns
     returns-2
     returns-3
-    sub-result
+    (λ c. search needs)
     returns-4
     returns-5
-    sub-result-2
+    (λ c. search needs)
     returns-6
     returns-7)

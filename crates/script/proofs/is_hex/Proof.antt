@@ -4,12 +4,9 @@ use borrow.Author.Needs.{needs}
 use Rattle.script.proofs.is_hex.Statement.{statement}
 use Rattle.script.proofs.is_hex.Tie as tie
 
-all-below-requires : tie.Need-all-below-requires
-all-below-requires c κs = search needs
-
 returns : tie.Need-returns
 unfolding isHex
 returns c = rw (c .all-below .ensures)
 
 pub is-hex-spec : {M : Type 1} → statement M
-is-hex-spec = tie.close (tie.spec all-below-requires returns)
+is-hex-spec = tie.close (tie.spec (λ c κs. search needs) returns)

@@ -5,15 +5,9 @@ use borrow.Author.Needs.{needs}
 use Rattle.script.proofs.is_number.Statement.{statement}
 use Rattle.script.proofs.is_number.Tie as tie
 
-all-below-requires : tie.Need-all-below-requires
-all-below-requires c κs = search needs
-
-number-requires : tie.Need-number-requires
-number-requires c κs = search needs
-
 returns : tie.Need-returns
 unfolding isNumber
 returns c = simp (c .before .all-below .ensures, c .number .ensures, cut-below)
 
 pub is-number-spec : {M : Type 1} → statement M
-is-number-spec = tie.close (tie.spec all-below-requires number-requires returns)
+is-number-spec = tie.close (tie.spec (λ c κs. search needs) (λ c κs. search needs) returns)

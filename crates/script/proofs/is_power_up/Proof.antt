@@ -4,12 +4,9 @@ use borrow.Author.Needs.{needs}
 use Rattle.script.proofs.is_power_up.Statement.{statement}
 use Rattle.script.proofs.is_power_up.Tie as tie
 
-byte-at-requires : tie.Need-byte-at-requires
-byte-at-requires c κs = search needs
-
 returns : tie.Need-returns
 unfolding isPowerUp
 returns c = rw (c .byte-at .ensures)
 
 pub is-power-up-spec : {M : Type 1} → statement M
-is-power-up-spec = tie.close (tie.spec byte-at-requires returns)
+is-power-up-spec = tie.close (tie.spec (λ c κs. search needs) returns)

@@ -18,26 +18,8 @@ returns c =
     let long = lt-ltb 600 (length (a .line .now)) (c .if1 .taken) in
     record { command = rw long; stored = rw long (none-stored (a .sent .now)) }
 
-is-exchange-requires : tie.Need-is-exchange-requires
-is-exchange-requires c κs = search needs
-
-byte-at-requires : tie.Need-byte-at-requires
-byte-at-requires c κs = search needs
-
-byte-at-requires-2 : tie.Need-byte-at-requires-2
-byte-at-requires-2 c κs = search needs
-
-digit-requires : tie.Need-digit-requires
-digit-requires c κs = search needs
-
-after-requires : tie.Need-after-requires
-after-requires c κs = search needs
-
 store-requires : tie.Need-store-requires
 store-requires c κs = rw (c .before .after .ensures) (exchange-hex (c .before .before .before .before .before .before .before .before .before .before .args .line .now) (sym (c .before .before .before .before .before .before .is-exchange .ensures) ∙ c .before .before .before .before .before .if2 .taken))
-
-same-length : tie.Need-same-length
-same-length c = search needs
 
 returns-2 : tie.Need-returns-2
 unfolding meaning bytesOf
@@ -49,15 +31,6 @@ returns-2 c =
       command = simp (c .before .before .before .before .before .before .before .byte-at .ensures, c .before .before .before .before .before .digit .ensures, c .before .before .before .before .before .before .byte-at2 .ensures, c .before .before .before .before .after .ensures, short, is, length-pairs);
       stored = rw (short, is, sym (c .before .before .before .before .after .ensures)) (c .before .before .store .ensures);
     }
-
-is-wait-requires : tie.Need-is-wait-requires
-is-wait-requires c κs = search needs
-
-after-requires-2 : tie.Need-after-requires-2
-after-requires-2 c κs = search needs
-
-number-requires : tie.Need-number-requires
-number-requires c κs = search needs
 
 cast-t18 : tie.Need-cast-t18
 cast-t18 c =
@@ -75,9 +48,6 @@ returns-3 c =
     let e : c .number .result ≡ min (numberOf (drop 2 (a .line .now))) 4294967296 = rw (c .before .after2 .ensures) at (c .number .ensures) in
     let f : c .number .result ≡ numberOf (drop 2 (a .line .now)) = omega (arith, wait-fits (a .line .now) is) in
     record { command = rw (short, no, is, f); stored = rw (short, no) (none-stored (a .sent .now)) }
-
-is-power-up-requires : tie.Need-is-power-up-requires
-is-power-up-requires c κs = search needs
 
 returns-4 : tie.Need-returns-4
 unfolding meaning bytesOf
@@ -104,19 +74,19 @@ parse-spec =
     tie.close
     (tie.spec
     returns
-    is-exchange-requires
-    byte-at-requires
-    byte-at-requires-2
-    digit-requires
-    after-requires
+    (λ c κs. search needs)
+    (λ c κs. search needs)
+    (λ c κs. search needs)
+    (λ c κs. search needs)
+    (λ c κs. search needs)
     store-requires
-    same-length
+    (λ c. search needs)
     returns-2
-    is-wait-requires
-    after-requires-2
-    number-requires
+    (λ c κs. search needs)
+    (λ c κs. search needs)
+    (λ c κs. search needs)
     cast-t18
     returns-3
-    is-power-up-requires
+    (λ c κs. search needs)
     returns-4
     returns-5)

@@ -5,27 +5,6 @@ use borrow.Author.Needs.{needs}
 use Rattle.script.proofs.print_end.Statement.{statement}
 use Rattle.script.proofs.print_end.Tie as tie
 
-push-requires : tie.Need-push-requires
-push-requires c κs = search needs
-
-push-requires-2 : tie.Need-push-requires-2
-push-requires-2 c κs = search needs
-
-push-requires-3 : tie.Need-push-requires-3
-push-requires-3 c κs = search needs
-
-push-requires-4 : tie.Need-push-requires-4
-push-requires-4 c κs = search needs
-
-put-decimal-requires : tie.Need-put-decimal-requires
-put-decimal-requires c κs = search needs
-
-push-requires-5 : tie.Need-push-requires-5
-push-requires-5 c κs = search needs
-
-same-length : tie.Need-same-length
-same-length c = search needs
-
 returns : tie.Need-returns
 unfolding endLine
 returns c =
@@ -39,11 +18,11 @@ pub print-end-spec : {M : Type 1} → statement M
 print-end-spec =
     tie.close
     (tie.spec
-    push-requires
-    push-requires-2
-    push-requires-3
-    push-requires-4
-    put-decimal-requires
-    push-requires-5
-    same-length
+    (λ c κs. search needs)
+    (λ c κs. search needs)
+    (λ c κs. search needs)
+    (λ c κs. search needs)
+    (λ c κs. search needs)
+    (λ c κs. search needs)
+    (λ c. search needs)
     returns)

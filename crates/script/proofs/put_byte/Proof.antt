@@ -7,21 +7,6 @@ use borrow.Author.Needs.{needs}
 use Rattle.script.proofs.put_byte.Statement.{statement}
 use Rattle.script.proofs.put_byte.Tie as tie
 
-hex-digit-requires : tie.Need-hex-digit-requires
-hex-digit-requires c κs = search needs
-
-push-requires : tie.Need-push-requires
-push-requires c κs = search needs
-
-hex-digit-requires-2 : tie.Need-hex-digit-requires-2
-hex-digit-requires-2 c κs = search needs
-
-push-requires-2 : tie.Need-push-requires-2
-push-requires-2 c κs = search needs
-
-same-length : tie.Need-same-length
-same-length c = search needs
-
 returns : tie.Need-returns
 returns c =
     let e : hexByte (c .before .before .before .before .before .before .before .before .before .before .before .args .b) ≡ c .before .before .before .before .before .before .before .before .before .hex-digit .result ∷ c .before .before .before .before .hex-digit2 .result ∷ [] = cc in
@@ -31,9 +16,9 @@ pub put-byte-spec : {M : Type 1} → statement M
 put-byte-spec =
     tie.close
     (tie.spec
-    hex-digit-requires
-    push-requires
-    hex-digit-requires-2
-    push-requires-2
-    same-length
+    (λ c κs. search needs)
+    (λ c κs. search needs)
+    (λ c κs. search needs)
+    (λ c κs. search needs)
+    (λ c. search needs)
     returns)

@@ -14,9 +14,6 @@ returns c =
     let a = c .before .args .array .now in
     sym (List·getD-eq-default a 255 {n = c .before .args .i % length a} (omega arith))
 
-rem-at : tie.Need-rem-at
-rem-at c = search needs
-
 shared-slice-read-result : tie.Need-shared-slice-read-result
 shared-slice-read-result c = mod-lt _ (omega arith)
 
@@ -28,4 +25,4 @@ returns-2 c =
     getD-any a (i % length a) 0 255 (mod-lt i pos)
 
 pub array-byte-spec : {M : Type 1} → statement M
-array-byte-spec = tie.close (tie.spec returns rem-at shared-slice-read-result returns-2)
+array-byte-spec = tie.close (tie.spec returns (λ c. search needs) shared-slice-read-result returns-2)

@@ -4,9 +4,6 @@ use borrow.Author.Needs.{needs}
 use Rattle.chip.proofs.line.from_on.Statement.{statement}
 use Rattle.chip.proofs.line.from_on.Tie as tie
 
-sub-t5 : tie.Need-sub-t5
-sub-t5 c = search needs
-
 returns : tie.Need-returns
 returns c = rw (lt-ltb _ _ (c .if1 .taken))
 
@@ -14,4 +11,4 @@ returns-2 : tie.Need-returns-2
 returns-2 c = rw (le-ltb _ _ (c .if1 .left))
 
 pub from-on-spec : {M : Type 1} → statement M
-from-on-spec = tie.close (tie.spec sub-t5 returns returns-2)
+from-on-spec = tie.close (tie.spec (λ c. search needs) returns returns-2)

@@ -4,33 +4,6 @@ use borrow.Author.Needs.{needs}
 use Rattle.chip.proofs.line.span_of.Statement.{statement}
 use Rattle.chip.proofs.line.span_of.Tie as tie
 
-enum-told : tie.Need-enum-told
-enum-told c = search needs
-
-enum-told-2 : tie.Need-enum-told-2
-enum-told-2 c = search needs
-
-from-on-requires : tie.Need-from-on-requires
-from-on-requires c κs = search needs
-
-enum-told-3 : tie.Need-enum-told-3
-enum-told-3 c = search needs
-
-from-on-requires-2 : tie.Need-from-on-requires-2
-from-on-requires-2 c κs = search needs
-
-enum-told-4 : tie.Need-enum-told-4
-enum-told-4 c = search needs
-
-from-on-requires-3 : tie.Need-from-on-requires-3
-from-on-requires-3 c κs = search needs
-
-enum-told-5 : tie.Need-enum-told-5
-enum-told-5 c = search needs
-
-from-on-requires-4 : tie.Need-from-on-requires-4
-from-on-requires-4 c κs = search needs
-
 returns : tie.Need-returns
 returns c = rw (c .enum-told .given .1)
 
@@ -50,15 +23,15 @@ pub span-of-spec : {M : Type 1} → statement M
 span-of-spec =
     tie.close
     (tie.spec
-    enum-told
-    enum-told-2
-    from-on-requires
-    enum-told-3
-    from-on-requires-2
-    enum-told-4
-    from-on-requires-3
-    enum-told-5
-    from-on-requires-4
+    (λ c. search needs)
+    (λ c. search needs)
+    (λ c κs. search needs)
+    (λ c. search needs)
+    (λ c κs. search needs)
+    (λ c. search needs)
+    (λ c κs. search needs)
+    (λ c. search needs)
+    (λ c κs. search needs)
     returns
     returns-2
     returns-3

@@ -6,21 +6,6 @@ use borrow.Author.Needs.{needs}
 use Rattle.parts.proofs.Figures.of.Statement.{statement}
 use Rattle.parts.proofs.Figures.of.Tie as tie
 
-figures-requires : tie.Need-figures-requires
-figures-requires c κs = search needs
-
-figures-requires-2 : tie.Need-figures-requires-2
-figures-requires-2 c κs = search needs
-
-figures-requires-3 : tie.Need-figures-requires-3
-figures-requires-3 c κs = search needs
-
-figures-requires-4 : tie.Need-figures-requires-4
-figures-requires-4 c κs = search needs
-
-figures-requires-5 : tie.Need-figures-requires-5
-figures-requires-5 c κs = search needs
-
 returns : tie.Need-returns
 unfolding figuresOf
 returns c = c .figures .ensures ∙ rw (c .before .match .keys1)
@@ -47,11 +32,11 @@ pub of-spec : {M : Type 1} → statement M
 of-spec =
     tie.close
     (tie.spec
-    figures-requires
-    figures-requires-2
-    figures-requires-3
-    figures-requires-4
-    figures-requires-5
+    (λ c κs. search needs)
+    (λ c κs. search needs)
+    (λ c κs. search needs)
+    (λ c κs. search needs)
+    (λ c κs. search needs)
     returns
     returns-2
     returns-3
