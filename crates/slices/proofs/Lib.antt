@@ -6,3 +6,6 @@ pub mod Parts
 pub mod Ands
 pub mod Sums
 pub mod Outcomes
+pub mod Sames
+pub mod Stores
+pub mod Words
