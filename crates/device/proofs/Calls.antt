@@ -1,20 +1,17 @@
 -- What the calls of the crate answer, by cases: what their proofs cite.
 -- Assumes nothing.
-use mathlib.Core.Path.{_≡_, refl, sym}
+use mathlib.Core.Path.{_≡_, refl}
 use mathlib.Core.Bool.{Bool, true, false, cond, _&&_}
 use mathlib.Core.List.{List}
 use Prim.Native.Nat.{ℕ, _≤_}
 use native.Mathlib.Omega.{arith}
-use lib.ListN.{length, getD}
+use lib.ListN.{length}
 use borrow.Author.Tests.{ne-eqb}
-use Rattle.slices.specs.Changed.{mapAt}
-use Rattle.slices.proofs.Maps.{map-is, getD-any}
 use Rattle.device.specs.declared.Mode.{Mode}
 use Rattle.device.specs.declared.Mode.the-variants.{Standby, Busy, Deep}
 use Rattle.device.specs.declared.Device.{Device}
-use Rattle.device.specs.declared.Checked.{Checked}
 use Rattle.device.specs.Device.{sound, zeroRecord, busyBit, waited, poweredUp, soundAnswer, waitCall, powerUpCall}
-use Rattle.device.specs.Packing.{packOf, packAnswer, Packed, formed, fieldsOf, unpackAnswer, unpackOf}
+use Rattle.device.specs.Packing.{packedLength, packOf, packAnswer, Packed, formed, fieldsOf, unpackAnswer, unpackOf}
 
 -- a bit of the status byte is at most its weight
 pub weight : (b : Bool) (n : ℕ) → cond b n 0 ≤ n
@@ -27,12 +24,8 @@ busy-weight Standby = omega arith
 busy-weight (Busy left) = omega arith
 busy-weight Deep = omega arith
 
--- a list copied over one that is as long
-pub copied : (src out : List ℕ) → length src ≡ length out → mapAt (getD src) out ≡ src
-copied src out e = sym (map-is (getD src) out src e (λ i h. getD-any src i 0 (getD out i 0) (omega arith)))
-
--- a packing is 28 bytes long
-pub length-pack : (d : Device) → length (packOf d) ≡ 28
+-- how long a packing is
+pub length-pack : (d : Device) → length (packOf d) ≡ packedLength
 unfolding packOf
 length-pack d = refl
 
@@ -55,27 +48,27 @@ unfolding powerUpCall soundAnswer
 power-up-done d h = rw h
 
 -- pack: a buffer of another length, a record that is not sound, a sound record
-pub packed-long : (d : Device) (out : List ℕ) → (length out ≡ 28 → ⊥) → Packed d out 8 out
+pub packed-long : (d : Device) (out : List ℕ) → (length out ≡ packedLength → ⊥) → Packed d out 8 out
 unfolding packAnswer
 packed-long d out h = record { answer = rw (ne-eqb _ _ h); bytes = rw (ne-eqb _ _ h) }
 
-pub packed-unsound : (d : Device) (out : List ℕ) → length out ≡ 28 → sound d ≡ false → Packed d out 6 out
+pub packed-unsound : (d : Device) (out : List ℕ) → length out ≡ packedLength → sound d ≡ false → Packed d out 6 out
 unfolding packAnswer
 packed-unsound d out h s = record { answer = rw (h, s); bytes = rw (h, s) }
 
-pub packed-well : (d : Device) (out : List ℕ) → length out ≡ 28 → sound d ≡ true → {out′ : List ℕ} → out′ ≡ packOf d → Packed d out 0 out′
+pub packed-well : (d : Device) (out : List ℕ) → length out ≡ packedLength → sound d ≡ true → {out′ : List ℕ} → out′ ≡ packOf d → Packed d out 0 out′
 unfolding packAnswer
 packed-well d out h s e = record { answer = rw (h, s); bytes = rw (h, s) e }
 
 -- unpack: another length, bytes that are no packing of a sound record, bytes that are
-pub unpacked-long : (b : List ℕ) → (length b ≡ 28 → ⊥) → unpackOf b ≡ record { answer = 8; device = zeroRecord }
+pub unpacked-long : (b : List ℕ) → (length b ≡ packedLength → ⊥) → unpackOf b ≡ record { answer = 8; device = zeroRecord }
 unfolding unpackOf unpackAnswer
 unpacked-long b h = rw (ne-eqb _ _ h)
 
-pub unpacked-bad : (b : List ℕ) → length b ≡ 28 → formed b && sound (fieldsOf b) ≡ false → unpackOf b ≡ record { answer = 6; device = zeroRecord }
+pub unpacked-bad : (b : List ℕ) → length b ≡ packedLength → formed b && sound (fieldsOf b) ≡ false → unpackOf b ≡ record { answer = 6; device = zeroRecord }
 unfolding unpackOf unpackAnswer
 unpacked-bad b h s = rw (h, s)
 
-pub unpacked-good : (b : List ℕ) → length b ≡ 28 → formed b && sound (fieldsOf b) ≡ true → unpackOf b ≡ record { answer = 0; device = fieldsOf b }
+pub unpacked-good : (b : List ℕ) → length b ≡ packedLength → formed b && sound (fieldsOf b) ≡ true → unpackOf b ≡ record { answer = 0; device = fieldsOf b }
 unfolding unpackOf unpackAnswer
 unpacked-good b h s = rw (h, s)

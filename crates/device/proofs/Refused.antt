@@ -6,7 +6,7 @@ use Prim.Native.Nat.{ℕ}
 use lib.ListN.{set}
 use Rattle.parts.specs.Parts.{figuresOf}
 use Rattle.device.specs.Device.{sound, latchAt}
-use Rattle.device.specs.Packing.{formed, fieldsOf, unpackAnswer}
+use Rattle.device.specs.Packing.{packOf, formed, fieldsOf, unpackAnswer}
 
 -- the bench part in standby with durations 3, 5, 9, 2
 unfoldable pub accepted : List ℕ
@@ -34,5 +34,5 @@ pub record Refusals : Type 0 where
   pub short : unpackAnswer [] ≡ 8
 
 pub refusals : Refusals
-unfolding accepted unpackAnswer formed sound fieldsOf figuresOf latchAt
+unfolding accepted unpackAnswer formed packOf sound fieldsOf figuresOf latchAt
 refusals = record { as-is = refl; part = refl; bp = refl; srwd = refl; latch = refl; mode = refl; busy-without-ticks = refl; busy-without-latch = refl; busy = refl; deep = refl; deep-m25p128 = refl; padding = refl; padding-2 = refl; padding-3 = refl; idle-ticks = refl; deep-ticks = refl; no-duration = refl; long-duration = refl; short = refl }

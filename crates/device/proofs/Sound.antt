@@ -1,22 +1,19 @@
 -- What a sound record has, and which changes keep a record sound.
 -- Assumes nothing.
-use mathlib.Core.Path.{_≡_, refl, sym, _∙_}
+use mathlib.Core.Path.{_≡_, refl}
 use mathlib.Core.Bool.{Bool, true, false, cond, _&&_}
 use Prim.Native.Nat.{ℕ, _≤_, _<_, _-_}
 use native.Mathlib.Omega.{arith}
 use lib.Dec.{leb, ltb}
 use borrow.Author.Tests.{leb-true, ltb-true, le-leb, le-ltb}
+use Rattle.slices.proofs.Choices.{both}
 use Rattle.parts.specs.Parts.{knownPart, figuresOf}
 use Rattle.device.specs.declared.Mode.{Mode}
 use Rattle.device.specs.declared.Mode.the-variants.{Standby, Busy, Deep}
 use Rattle.device.specs.declared.Device.{Device}
 use Rattle.device.specs.Device.{latchAt, moded, latched, settled, zeroRecord, delivered, running, waitedIn, waited, poweredUp, bothSame, rangedOf, modeSound, sound, busyBit}
 
--- two tests, both true
-pub both : (s t : Bool) → s && t ≡ true → (s ≡ true) × (t ≡ true)
-both true t h = (refl, h)
-both false t h = let z : _≡_ {A = Bool} false true = h in (z, cc)
-
+-- two true tests
 pub and-true : (s t : Bool) → s ≡ true → t ≡ true → s && t ≡ true
 and-true s t h i = rw (h, i)
 
@@ -134,7 +131,7 @@ delivered-sound p a b c w k ha hb hc hw = sound-by (delivered p a b c w) (record
 
 -- the all-zero record is not sound
 pub zero-unsound : sound zeroRecord ≡ false
-unfolding sound zeroRecord figuresOf
+unfolding sound zeroRecord delivered figuresOf
 zero-unsound = refl
 
 -- a wait as long as the cycle ends it, whenever the latch falls

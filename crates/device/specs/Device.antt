@@ -25,19 +25,19 @@ latched d on = record { part = d .part; bp = d .bp; srwd = d .srwd; latch = on; 
 unfoldable pub settled : Device → Bool → ℕ → Device
 settled d w b = record { part = d .part; bp = b; srwd = w; latch = d .latch; mode = d .mode; program = d .program; «sector_erase» = d .«sector_erase»; «bulk_erase» = d .«bulk_erase»; «write_status» = d .«write_status» }
 
--- the all-zero record
-unfoldable pub zeroRecord : Device
-zeroRecord = record { part = 0; bp = 0; srwd = false; latch = false; mode = Standby; program = 0; «sector_erase» = 0; «bulk_erase» = 0; «write_status» = 0 }
-
 -- the record as delivered: BP 0, SRWD 0, latch reset, standby, the given durations
 unfoldable pub delivered : ℕ → ℕ → ℕ → ℕ → ℕ → Device
 delivered p program sector bulk status = record { part = p; bp = 0; srwd = false; latch = false; mode = Standby; program = program; «sector_erase» = sector; «bulk_erase» = bulk; «write_status» = status }
+
+-- the all-zero record
+unfoldable pub zeroRecord : Device
+zeroRecord = delivered 0 0 0 0 0
 
 -- busy with t ticks left
 unfoldable pub running : Device → ℕ → Device
 running d t = moded d (latchAt t) (Busy t)
 
--- waiting in a mode: fewer ticks than are left fall off, more end the cycle, and without a cycle nothing changes
+-- waiting in a mode: fewer ticks than are left fall off, with the latch that belongs to the ticks left; else the cycle ends; without a cycle nothing changes
 abbrev pub waitedIn : Mode → Device → ℕ → Device
 waitedIn Standby d t = d
 waitedIn (Busy left) d t = cond (ltb t left) (running d (left - t)) (moded d false Standby)

@@ -5,7 +5,7 @@ ghost use Rattle.device.specs.Device.{latchAt, moded, latched, settled, 
 // What a cycle does, and how long it takes.
 pub mod cycle;
 
-// The 28 bytes that a record is packed in.
+// The bytes that a record is packed in.
 pub mod packing;
 
 // What the chip is doing: nothing, a cycle with so many ticks left, or deep power-down.
@@ -96,39 +96,20 @@ impl Device {
     }
 
     // Another latch.
-    pub fn latched(self, on: bool) -> Self
+    pub fn latched(mut self, on: bool) -> Self
         ensures { λ r. ⌜ r ≡ latched self on ⌝ }
     {
-        let mode = self.mode;
-        Device {
-            part: self.part,
-            bp: self.bp,
-            srwd: self.srwd,
-            latch: on,
-            mode,
-            program: self.program,
-            sector_erase: self.sector_erase,
-            bulk_erase: self.bulk_erase,
-            write_status: self.write_status,
-        }
+        self.latch = on;
+        self
     }
 
     // Other settings.
-    pub fn settled(self, srwd: bool, bp: u8) -> Self
+    pub fn settled(mut self, srwd: bool, bp: u8) -> Self
         ensures { λ r. ⌜ r ≡ settled self srwd bp ⌝ }
     {
-        let mode = self.mode;
-        Device {
-            part: self.part,
-            bp,
-            srwd,
-            latch: self.latch,
-            mode,
-            program: self.program,
-            sector_erase: self.sector_erase,
-            bulk_erase: self.bulk_erase,
-            write_status: self.write_status,
-        }
+        self.srwd = srwd;
+        self.bp = bp;
+        self
     }
 
     // Busy with `t` ticks left.
@@ -138,8 +119,8 @@ impl Device {
         self.moded(latch_at(t), Mode::Busy(t))
     }
 
-    // `t` ticks later.
-    pub fn waited(self, t: u32) -> Self
+    // `t` ticks later: within a cycle, with the latch that belongs to the ticks left.
+    fn waited(self, t: u32) -> Self
         ensures { λ r. ⌜ r ≡ waited self t ⌝ }
     {
         let mode = self.mode;
@@ -157,7 +138,7 @@ impl Device {
     }
 
     // After power-up.
-    pub fn powered_up(self) -> Self
+    fn powered_up(self) -> Self
         ensures { λ r. ⌜ r ≡ poweredUp self ⌝ }
     {
         let standby = Mode::Standby;
@@ -168,17 +149,7 @@ impl Device {
     pub fn zero() -> Self
         ensures { λ r. ⌜ r ≡ zeroRecord ⌝ }
     {
-        Device {
-            part: 0,
-            bp: 0,
-            srwd: false,
-            latch: false,
-            mode: Mode::Standby,
-            program: 0,
-            sector_erase: 0,
-            bulk_erase: 0,
-            write_status: 0,
-        }
+        Device::delivered(0, 0, 0, 0, 0)
     }
 
     // The record as delivered.

@@ -1,24 +1,14 @@
-// The record packed in 28 bytes, and read back.
+// The record packed in bytes, and read back.
 ghost use mathlib.Core.Path.{_≡_};
-ghost use Prim.Native.Nat.{_≤_};
-ghost use lib.ListN.{length};
-ghost use Rattle.device.specs.Packing.{wordAt, modeNumber, ticksOf, modeOf, packOf, fieldsOf, formed, Packed, unpackOf};
+ghost use Rattle.slices.specs.Bytes.{sameBytes};
+ghost use Rattle.slices.specs.Changed.{mapAt, stored};
+ghost use Rattle.device.specs.Packing.{modeNumber, ticksOf, modeOf, headOf, packOf, fieldsOf, Packed, unpackOf};
 use crate::Checked;
 use crate::Device;
 use crate::Mode;
 
-// The little-endian number of the four bytes from `at` on.
-fn word_at(b: &[u8], at: usize) -> u32
-    requires { ⌜ at ≤ 24 ⌝ }
-    ensures { λ r. ⌜ r ≡ wordAt (now (b .entry)) at ⌝ }
-{
-    slices::word(
-        slices::byte_at(b, at),
-        slices::byte_at(b, at + 1),
-        slices::byte_at(b, at + 2),
-        slices::byte_at(b, at + 3),
-    )
-}
+// How many bytes a packing has.
+pub const LENGTH: usize = 28;
 
 // The mode byte.
 fn mode_number(mode: Mode) -> u8
@@ -53,16 +43,11 @@ fn mode_of(number: u8, ticks: u32) -> Mode
     }
 }
 
-// The 28 bytes of a record.
-fn bytes_of(d: Device) -> [u8; 28]
-    ensures { λ r. ⌜ r ≡ packOf d ⌝ }
+// The first eight bytes: part, BP, SRWD, latch, mode, three zero bytes.
+fn head_bytes(d: Device) -> [u8; 8]
+    ensures { λ r. ⌜ r ≡ headOf d ⌝ }
 {
     let mode = d.mode;
-    let ticks = ticks_of(mode);
-    let program = d.program;
-    let sector_erase = d.sector_erase;
-    let bulk_erase = d.bulk_erase;
-    let write_status = d.write_status;
     [
         d.part,
         d.bp,
@@ -72,38 +57,32 @@ fn bytes_of(d: Device) -> [u8; 28]
         0,
         0,
         0,
-        (ticks % 256) as u8,
-        (ticks / 256 % 256) as u8,
-        (ticks / 65536 % 256) as u8,
-        (ticks / 16777216 % 256) as u8,
-        (program % 256) as u8,
-        (program / 256 % 256) as u8,
-        (program / 65536 % 256) as u8,
-        (program / 16777216 % 256) as u8,
-        (sector_erase % 256) as u8,
-        (sector_erase / 256 % 256) as u8,
-        (sector_erase / 65536 % 256) as u8,
-        (sector_erase / 16777216 % 256) as u8,
-        (bulk_erase % 256) as u8,
-        (bulk_erase / 256 % 256) as u8,
-        (bulk_erase / 65536 % 256) as u8,
-        (bulk_erase / 16777216 % 256) as u8,
-        (write_status % 256) as u8,
-        (write_status / 256 % 256) as u8,
-        (write_status / 65536 % 256) as u8,
-        (write_status / 16777216 % 256) as u8,
     ]
+}
+
+// The packing written to the front of `out`, part by part.
+fn write(d: Device, out: &mut [u8])
+    ensures { λ _. ⌜ now (out .exit) ≡ mapAt (stored 0 (packOf d)) (now (out .entry)) ⌝ }
+{
+    let mode = d.mode;
+    let head = head_bytes(d);
+    slices::store(out, 0, &head);
+    slices::store_word(out, 8, ticks_of(mode));
+    slices::store_word(out, 12, d.program);
+    slices::store_word(out, 16, d.sector_erase);
+    slices::store_word(out, 20, d.bulk_erase);
+    slices::store_word(out, 24, d.write_status);
 }
 
 // The record whose fields stand in the bytes, whether they are a packing or not.
 fn fields(b: &[u8]) -> Device
     ensures { λ r. ⌜ r ≡ fieldsOf (now (b .entry)) ⌝ }
 {
-    let mode = mode_of(slices::byte_at(b, 4), word_at(b, 8));
-    let program = word_at(b, 12);
-    let sector_erase = word_at(b, 16);
-    let bulk_erase = word_at(b, 20);
-    let write_status = word_at(b, 24);
+    let mode = mode_of(slices::byte_at(b, 4), slices::word_at(b, 8));
+    let program = slices::word_at(b, 12);
+    let sector_erase = slices::word_at(b, 16);
+    let bulk_erase = slices::word_at(b, 20);
+    let write_status = slices::word_at(b, 24);
     Device {
         part: slices::byte_at(b, 0),
         bp: slices::byte_at(b, 1),
@@ -117,48 +96,41 @@ fn fields(b: &[u8]) -> Device
     }
 }
 
-// Whether SRWD, latch, mode and padding bytes have one of their values, and ticks are left only while busy.
-fn well_formed(b: &[u8]) -> bool
-    ensures { λ r. ⌜ r ≡ formed (now (b .entry)) ⌝ }
+// Whether bytes are the packing of a record.
+fn packs_to(d: Device, b: &[u8]) -> bool
+    ensures { λ r. ⌜ r ≡ sameBytes (now (b .entry)) (packOf d) ⌝ }
 {
-    let ticks = word_at(b, 8);
-    let mode = slices::byte_at(b, 4);
-    let srwd = slices::byte_at(b, 2) <= 1;
-    let latch = slices::byte_at(b, 3) <= 1;
-    let p = slices::byte_at(b, 5) == 0;
-    let q = slices::byte_at(b, 6) == 0;
-    let r = slices::byte_at(b, 7) == 0;
-    srwd & latch & (mode <= 2) & p & q & r & ((mode == 1) | (ticks == 0))
+    let mut again = [0; LENGTH];
+    write(d, &mut again);
+    slices::same(b, &again)
 }
 
-// Packs a record: 8 where `out` is not 28 bytes, 6 where the record is not sound, with nothing written; else 0.
+// Packs a record: 8 where `out` is not of `LENGTH` bytes, 6 where the record is not sound, with nothing written; else 0.
 pub fn pack(d: Device, out: &mut [u8]) -> u8
     ensures { λ r. ⌜ Packed d (now (out .entry)) r (now (out .exit)) ⌝ }
 {
-    if out.len() != 28 {
+    if out.len() != LENGTH {
         return 8;
     }
     if d.sound() {
-        let bytes = bytes_of(d);
-        slices::copy(out, &bytes);
-        0
-    } else {
-        6
+        write(d, out);
+        return 0;
     }
+    6
 }
 
-// Unpacks a record: 8 where there are not 28 bytes, 6 where they are not the packing of a sound record, with the all-zero record; else 0.
+// Unpacks a record: 8 where there are not `LENGTH` bytes, 6 where they are not the packing of a sound record, with the all-zero record; else 0.
 pub fn unpack(packed: &[u8]) -> Checked
     ensures { λ r. ⌜ r ≡ unpackOf (now (packed .entry)) ⌝ }
 {
-    if packed.len() != 28 {
+    if packed.len() != LENGTH {
         return Checked {
             answer: 8,
             device: Device::zero(),
         };
     }
     let d = fields(packed);
-    let formed = well_formed(packed);
+    let formed = packs_to(d, packed);
     let sound = d.sound();
     if formed & sound {
         Checked {

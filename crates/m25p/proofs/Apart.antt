@@ -12,7 +12,7 @@ use Rattle.parts.specs.Parts.{figuresOf, knownPart}
 use Rattle.device.specs.declared.Device.{Device}
 use Rattle.device.specs.declared.Checked.{Checked}
 use Rattle.device.specs.Device.{sound, rangedOf, waitCall, powerUpCall, soundAnswer}
-use Rattle.device.specs.Packing.{formed, fieldsOf, unpackAnswer, unpackOf}
+use Rattle.device.specs.Packing.{packedLength, formed, fieldsOf, unpackAnswer, unpackOf}
 use Rattle.chip.specs.declared.Answer.{Answer}
 use Rattle.chip.specs.Answers.{deliveryAnswer}
 use Rattle.chip.specs.Outcome.{Outcome, bare, outcomeOf}
@@ -41,7 +41,7 @@ apart-bare {r} {k} e h = rw e (apart (bare k) (omega arith) (omega arith) (omega
 -- unpacking answers 0, 6 or 8
 unpack-few : (b : List ℕ) → unpackAnswer b ≤ 8
 unfolding unpackAnswer
-unpack-few b = cond-ind (λ (k : ℕ). k ≤ 8) (eqb (length b) 28) (cond-ind (λ (k : ℕ). k ≤ 8) (formed b && sound (fieldsOf b)) (lit≤ tt) (lit≤ tt)) (lit≤ tt)
+unpack-few b = cond-ind (λ (k : ℕ). k ≤ 8) (eqb (length b) packedLength) (cond-ind (λ (k : ℕ). k ≤ 8) (formed b && sound (fieldsOf b)) (lit≤ tt) (lit≤ tt)) (lit≤ tt)
 
 -- a transaction
 pub transact-apart : (packed array sent : List ℕ) (pulses w : ℕ) (response : List ℕ) {r : ℕ} {packed′ array′ response′ : List ℕ}
@@ -79,7 +79,7 @@ unfolding deliveryC deliveryAnswer
 deliver-apart packed part array p s b t d =
     let P : ℕ → Type 0 = λ k. k ≤ 23 in
     apart-bare (d .answer)
-    (cond-ind P (eqb (length packed) 28)
+    (cond-ind P (eqb (length packed) packedLength)
     (cond-ind P (not (knownPart part)) (lit≤ tt)
     (cond-ind P (not (eqb (length array) (figuresOf part .bytes))) (lit≤ tt)
     (cond-ind P (not (rangedOf p && rangedOf s && rangedOf b && rangedOf t)) (lit≤ tt) (lit≤ tt))))

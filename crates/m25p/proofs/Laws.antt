@@ -13,7 +13,7 @@ use Rattle.parts.specs.Parts.{figuresOf, knownPart}
 use Rattle.device.specs.declared.Device.{Device}
 use Rattle.device.specs.declared.Checked.{Checked}
 use Rattle.device.specs.Device.{onZero, sound, rangedOf, waitCall, powerUpCall, soundAnswer, zeroRecord, delivered}
-use Rattle.device.specs.Packing.{packOf, packAnswer, Packed, unpackAnswer, unpackOf}
+use Rattle.device.specs.Packing.{packedLength, packOf, packAnswer, Packed, unpackAnswer, unpackOf}
 use Rattle.device.proofs.Sound.{delivered-sound}
 use Rattle.device.proofs.Inverse.{opened}
 use Rattle.chip.specs.declared.Answer.{Answer}
@@ -35,8 +35,8 @@ named b = refl
 pub unpacked-sound : (b : List ℕ) → unpackOf b .answer ≡ 0 → sound (unpackOf b .device) ≡ true
 unpacked-sound b e = let o = opened b e in rw (o .fields) (o .is-sound)
 
--- a sound record packed over 28 bytes
-pub packs : {d : Device} {out out′ : List ℕ} {r : ℕ} → Packed d out r out′ → length out ≡ 28 → sound d ≡ true → out′ ≡ packOf d
+-- a sound record packed over bytes of its length
+pub packs : {d : Device} {out out′ : List ℕ} {r : ℕ} → Packed d out r out′ → length out ≡ packedLength → sound d ≡ true → out′ ≡ packOf d
 unfolding packAnswer
 packs p l s = p .bytes ∙ rw (l, s)
 
@@ -115,16 +115,16 @@ one-call-on p q = (p .answer ∙ sym (q .answer), p .bytes ∙ sym (q .bytes))
 -- ---- delivery
 
 -- another length of the packed bytes
-pub another-length : (packed : List ℕ) (part : ℕ) (array : List ℕ) (p s b t : ℕ) {r : ℕ} → (length packed ≡ 28 → ⊥) → r ≡ packedAnswer (bare 8) → DeliveredC packed part array p s b t r packed array
+pub another-length : (packed : List ℕ) (part : ℕ) (array : List ℕ) (p s b t : ℕ) {r : ℕ} → (length packed ≡ packedLength → ⊥) → r ≡ packedAnswer (bare 8) → DeliveredC packed part array p s b t r packed array
 unfolding deliveryC
-another-length packed part array p s b t n e = record { answer = rw (ne-eqb (length packed) 28 n) e; bytes = rw (ne-eqb (length packed) 28 n); memory = rw (ne-eqb (length packed) 28 n) }
+another-length packed part array p s b t n e = record { answer = rw (ne-eqb (length packed) packedLength n) e; bytes = rw (ne-eqb (length packed) packedLength n); memory = rw (ne-eqb (length packed) packedLength n) }
 
--- 28 bytes: what the delivery answers
-pub delivers : (packed : List ℕ) (part : ℕ) (array : List ℕ) (p s b t : ℕ) {r : ℕ} {packed′ array′ : List ℕ} {c : Checked} → length packed ≡ 28 → Delivered part array p s b t c array′ → r ≡ packedAnswer (bare (c .answer))
+-- bytes of a packing's length: what the delivery answers
+pub delivers : (packed : List ℕ) (part : ℕ) (array : List ℕ) (p s b t : ℕ) {r : ℕ} {packed′ array′ : List ℕ} {c : Checked} → length packed ≡ packedLength → Delivered part array p s b t c array′ → r ≡ packedAnswer (bare (c .answer))
     → packed′ ≡ packedBy (c .answer) (delivered part p s b t) packed → DeliveredC packed part array p s b t r packed′ array′
 unfolding deliveryC
 delivers packed part array p s b t {r} {packed′} {array′} {c} l d e q =
-    let y : deliveryC packed part (length array) p s b t ≡ deliveryAnswer part (length array) p s b t = rw (eq-eqb (length packed) 28 l) in
+    let y : deliveryC packed part (length array) p s b t ≡ deliveryAnswer part (length array) p s b t = rw (eq-eqb (length packed) packedLength l) in
     let z : c .answer ≡ deliveryC packed part (length array) p s b t = d .answer ∙ sym y in
     record {
       answer = e ∙ ap (λ (k : ℕ). packedAnswer (bare k)) z;

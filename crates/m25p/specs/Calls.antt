@@ -1,4 +1,4 @@
--- The C calls over the 28 packed bytes: the answer in 64 bits, and every byte of record, array and response.
+-- The C calls over the packed bytes: the answer in 64 bits, and every byte of record, array and response.
 use mathlib.Core.Path.{_≡_}
 use mathlib.Core.Bool.{Bool, cond, not}
 use mathlib.Core.List.{List}
@@ -9,7 +9,7 @@ use Rattle.slices.specs.Changed.{mapAt, put}
 use Rattle.device.specs.declared.Device.{Device}
 use Rattle.device.specs.declared.Checked.{Checked}
 use Rattle.device.specs.Device.{onZero, delivered}
-use Rattle.device.specs.Packing.{packOf, unpackAnswer, unpackOf}
+use Rattle.device.specs.Packing.{packedLength, packOf, unpackAnswer, unpackOf}
 use Rattle.chip.specs.declared.Answer.{Answer}
 use Rattle.chip.specs.declared.answers.Verdict.the-variants.{Refused}
 use Rattle.chip.specs.Answers.{deliveryAnswer}
@@ -53,7 +53,7 @@ pub record CalledOn (c : Checked) (packed : List ℕ) (r : ℕ) (packed′ : Lis
 -- ---- delivery: 8, then 1, 2, 7
 
 unfoldable pub deliveryC : List ℕ → ℕ → ℕ → ℕ → ℕ → ℕ → ℕ → ℕ
-deliveryC packed part array program sector bulk status = cond (eqb (length packed) 28) (deliveryAnswer part array program sector bulk status) 8
+deliveryC packed part array program sector bulk status = cond (eqb (length packed) packedLength) (deliveryAnswer part array program sector bulk status) 8
 
 pub record DeliveredC (packed : List ℕ) (part : ℕ) (array : List ℕ) (program sector bulk status r : ℕ) (packed′ array′ : List ℕ) : Type 0 where
   pub answer : r ≡ packedAnswer (bare (deliveryC packed part (length array) program sector bulk status))

@@ -1,10 +1,11 @@
-// The C calls: delivery, transaction, wait, power-up and raw pins over the 28 packed bytes of a record.
+// The C calls: delivery, transaction, wait, power-up and raw pins over the packed bytes of a record.
 ghost use mathlib.Core.Path.{_≡_};
 ghost use Rattle.device.specs.Device.{waitCall, powerUpCall};
 ghost use Rattle.m25p.specs.Calls.{packedAnswer, transactedC, Called, checkedC, CalledOn, DeliveredC};
 ghost use Rattle.m25p.specs.Pins.{RanC};
 ghost use Rattle.chip.specs.Outcome;
 use chip::Answer;
+use device::packing::LENGTH;
 use device::packing::pack;
 use device::packing::unpack;
 
@@ -39,7 +40,7 @@ pub extern "C" fn m25p_deliver(
 ) -> u64
     ensures { λ r. ⌜ DeliveredC (now (packed .entry)) part (now (array .entry)) program «sector_erase» «bulk_erase» «write_status» r (now (packed .exit)) (now (array .exit)) ⌝ }
 {
-    if packed.len() != 28 {
+    if packed.len() != LENGTH {
         return bare(8);
     }
     let done = chip::deliver(part, array, program, sector_erase, bulk_erase, write_status);

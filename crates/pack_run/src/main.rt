@@ -1,7 +1,8 @@
-// Packs and unpacks records of each part and mode, and records and bytes that are refused, and writes the answers and the 28 bytes.
+// Packs and unpacks records of each part and mode, and records and bytes that are refused, and writes the answers and the bytes.
 use device::Device;
 use device::Mode;
 use device::packing;
+use device::packing::LENGTH;
 
 // A byte as a number to print.
 fn wide(x: u8) -> u64 {
@@ -56,8 +57,8 @@ fn deep() -> Device {
 
 // Packs a record over bytes of 55, unpacks the bytes and packs what came: the three answers, the bytes, and whether both packings are the same.
 fn round(name: &[u8], d: Device) {
-    let mut bytes = [0x55; 28];
-    let mut again = [0; 28];
+    let mut bytes = [0x55; LENGTH];
+    let mut again = [0; LENGTH];
     let p = packing::pack(d, &mut bytes);
     let u = packing::unpack(&bytes);
     let q = packing::pack(u.device, &mut again);
@@ -86,9 +87,9 @@ fn pack_into(name: &[u8], d: Device, out: &mut [u8]) {
     io::write_all(1, b"\n");
 }
 
-// Packs a record into 28 bytes.
-fn pack_28(name: &[u8], d: Device) {
-    let mut out = [0; 28];
+// Packs a record into as many bytes as a packing has.
+fn pack_whole(name: &[u8], d: Device) {
+    let mut out = [0; LENGTH];
     pack_into(name, d, &mut out);
 }
 
@@ -119,7 +120,7 @@ fn is_zero(d: Device) -> bool {
 
 // Unpacks bytes: the answer, the answer that packing the record handed back gives, and whether it is the all-zero one.
 fn unpack_from(name: &[u8], bytes: &[u8]) {
-    let mut out = [0; 28];
+    let mut out = [0; LENGTH];
     let u = packing::unpack(bytes);
     let d = u.device;
     let p = packing::pack(d, &mut out);
@@ -131,7 +132,7 @@ fn unpack_from(name: &[u8], bytes: &[u8]) {
 
 // Unpacks a record's bytes after one of them was set.
 fn damaged(name: &[u8], d: Device, at: usize, v: u8) {
-    let mut bytes = [0; 28];
+    let mut bytes = [0; LENGTH];
     packing::pack(d, &mut bytes);
     put(&mut bytes, at, v);
     unpack_from(name, &bytes);
@@ -154,24 +155,24 @@ fn sound_ones() {
 
 // Records that are not sound, and buffers of another length: 6, and 8 before it, with nothing written.
 fn refused_packs() {
-    pack_28(b"pack-zero", Device::zero());
-    pack_28(b"pack-part-5", record(5, 0, false, false, Mode::Standby));
-    pack_28(b"pack-bp-4", record(0, 4, false, false, Mode::Standby));
-    pack_28(
+    pack_whole(b"pack-zero", Device::zero());
+    pack_whole(b"pack-part-5", record(5, 0, false, false, Mode::Standby));
+    pack_whole(b"pack-bp-4", record(0, 4, false, false, Mode::Standby));
+    pack_whole(
         b"pack-busy-latch-reset",
         record(0, 0, false, false, Mode::Busy(1)),
     );
-    pack_28(b"pack-ticks-0", record(0, 0, false, true, Mode::Busy(0)));
-    pack_28(
+    pack_whole(b"pack-ticks-0", record(0, 0, false, true, Mode::Busy(0)));
+    pack_whole(
         b"pack-ticks-1000001",
         record(0, 0, false, true, Mode::Busy(1_000_001)),
     );
-    pack_28(b"pack-M25P128-deep", record(4, 0, false, false, Mode::Deep));
-    let mut short = [0; 27];
-    let mut long = [0; 29];
-    pack_into(b"pack-27", standby(), &mut short);
-    pack_into(b"pack-29", standby(), &mut long);
-    pack_into(b"pack-27-not-sound", Device::zero(), &mut short);
+    pack_whole(b"pack-M25P128-deep", record(4, 0, false, false, Mode::Deep));
+    let mut short = [0; LENGTH - 1];
+    let mut long = [0; LENGTH + 1];
+    pack_into(b"pack-short", standby(), &mut short);
+    pack_into(b"pack-long", standby(), &mut long);
+    pack_into(b"pack-short-not-sound", Device::zero(), &mut short);
 }
 
 // Bytes that are not the packing of a sound record: 6 with the all-zero record. Where the changed byte gives another sound record: 0.
@@ -213,10 +214,10 @@ fn damaged_numbers() {
 
 // Other lengths: 8, whatever the bytes are.
 fn other_lengths() {
-    unpack_from(b"length-27", &[0; 27]);
-    unpack_from(b"length-29", &[0; 29]);
-    unpack_from(b"length-0", b"");
-    unpack_from(b"length-28-zero", &[0; 28]);
+    unpack_from(b"short", &[0; LENGTH - 1]);
+    unpack_from(b"long", &[0; LENGTH + 1]);
+    unpack_from(b"empty", b"");
+    unpack_from(b"all-zero", &[0; LENGTH]);
 }
 
 fn main() {

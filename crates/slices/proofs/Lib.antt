@@ -7,3 +7,6 @@ pub mod Ands
 pub mod Sums
 pub mod Outcomes
 pub mod Laid
+pub mod Sames
+pub mod Stores
+pub mod Words

@@ -3,7 +3,8 @@ ghost use mathlib.Core.Path.{_≡_};
 ghost use mathlib.Core.Bool.{cond};
 ghost use Prim.Native.Nat.{_+_, _*_, _%_, min};
 ghost use lib.ListN.{getD};
-ghost use Rattle.slices.specs.Changed.{mapAt, window, put};
+ghost use Rattle.slices.specs.Changed.{mapAt, window, put, stored};
+ghost use Rattle.slices.specs.Bytes.{sameBytes, word, wordAt};
 
 // The smaller number.
 pub fn least(a: usize, b: usize) -> usize
@@ -40,6 +41,31 @@ pub fn byte_at(s: &[u8], i: usize) -> u8
     if i < s.len() { s[i] } else { 0 }
 }
 
+// The little-endian number of the four bytes from `at` on; those past the end are 0.
+pub fn word_at(s: &[u8], at: usize) -> u32
+    ensures { λ r. ⌜ r ≡ wordAt (now (s .entry)) at ⌝ }
+{
+    let start = least(at, s.len());
+    let t = &s[start..];
+    word(byte_at(t, 0), byte_at(t, 1), byte_at(t, 2), byte_at(t, 3))
+}
+
+// Whether two slices hold the same bytes.
+pub fn same(a: &[u8], b: &[u8]) -> bool
+    ensures { λ r. ⌜ r ≡ sameBytes (now (a .entry)) (now (b .entry)) ⌝ }
+{
+    if a.len() != b.len() {
+        return false;
+    }
+    let mut all = true;
+    let mut i = 0;
+    while i < a.len() {
+        all = all & (a[i] == b[i]);
+        i += 1;
+    }
+    all
+}
+
 // Every byte becomes `v`.
 pub fn fill(s: &mut [u8], v: u8)
     ensures { λ _. ⌜ now (s .exit) ≡ mapAt (put v) (now (s .entry)) ⌝ }
@@ -72,4 +98,32 @@ pub fn fill_part(s: &mut [u8], from: usize, count: usize, v: u8)
     let n = least(count, room);
     let end = start + n;
     fill(&mut s[start..end], v);
+}
+
+// The bytes from `at` on become those of `src`, as far as there are any.
+pub fn store(out: &mut [u8], at: usize, src: &[u8])
+    ensures { λ _. ⌜ now (out .exit) ≡ mapAt (stored at (now (src .entry))) (now (out .entry)) ⌝ }
+{
+    let start = least(at, out.len());
+    copy(&mut out[start..], src);
+}
+
+// A number's four bytes, little-endian.
+fn word_bytes(n: u32) -> [u8; 4]
+    ensures { λ r. ⌜ r ≡ word n ⌝ }
+{
+    [
+        (n % 256) as u8,
+        (n / 256 % 256) as u8,
+        (n / 65536 % 256) as u8,
+        (n / 16777216 % 256) as u8,
+    ]
+}
+
+// The bytes from `at` on become a number's four, as far as there are any.
+pub fn store_word(out: &mut [u8], at: usize, n: u32)
+    ensures { λ _. ⌜ now (out .exit) ≡ mapAt (stored at (word n)) (now (out .entry)) ⌝ }
+{
+    let bytes = word_bytes(n);
+    store(out, at, &bytes);
 }

@@ -1,4 +1,4 @@
--- `device::latch_at` meets its contract. Assumes nothing.
+-- `device::latch_at` meets its contract.
 use mathlib.Core.Path.{refl}
 use Rattle.device.specs.Device.{latchAt}
 use Rattle.device.proofs.latch_at.Statement.{statement}

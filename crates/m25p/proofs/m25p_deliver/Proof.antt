@@ -2,6 +2,7 @@
 use mathlib.Core.Path.{_≡_, sym, ap, _∙_}
 use Prim.Native.Nat.{ℕ}
 use lib.ListN.{length}
+use Rattle.device.specs.Packing.{packedLength}
 use Rattle.chip.specs.Outcome.{bare}
 use Rattle.m25p.specs.Calls.{packedAnswer}
 use Rattle.m25p.proofs.Laws.{packs, written, kept, another-length, delivers, as-delivered}
@@ -18,7 +19,7 @@ returns-2 : tie.Need-returns-2
 returns-2 c =
     let b = c .before .before .before .before .before .before .before .before .before in
     let a = b .before .before .before .before .before .args in
-    let l : length (a .packed .now) ≡ 28 = b .before .before .if1 .left in
+    let l : length (a .packed .now) ≡ packedLength = b .before .before .if1 .left in
     let z = c .before .before .before .before .before .if2 .taken in
     let d = as-delivered (a .part) (a .array .now) _ _ _ _ (b .deliver .ensures) z in
     delivers (a .packed .now) (a .part) (a .array .now) _ _ _ _ l (b .deliver .ensures) (c .bare2 .ensures ∙ ap (λ (k : ℕ). packedAnswer (bare k)) (sym z))

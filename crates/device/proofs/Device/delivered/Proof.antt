@@ -1,4 +1,4 @@
--- `device::Device::delivered` meets its contract. Assumes nothing.
+-- `device::Device::delivered` meets its contract.
 use mathlib.Core.Path.{refl}
 use Rattle.device.specs.Device.{delivered}
 use Rattle.device.proofs.Device.delivered.Statement.{statement}

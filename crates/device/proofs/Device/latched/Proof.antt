@@ -1,4 +1,4 @@
--- `device::Device::latched` meets its contract. Assumes nothing.
+-- `device::Device::latched` meets its contract.
 use mathlib.Core.Path.{refl}
 use Rattle.device.specs.Device.{latched}
 use Rattle.device.proofs.Device.latched.Statement.{statement}

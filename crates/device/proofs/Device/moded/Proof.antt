@@ -1,4 +1,4 @@
--- `device::Device::moded` meets its contract. Assumes nothing.
+-- `device::Device::moded` meets its contract.
 use mathlib.Core.Path.{refl}
 use Rattle.device.specs.Device.{moded}
 use Rattle.device.proofs.Device.moded.Statement.{statement}

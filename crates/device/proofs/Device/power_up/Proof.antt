@@ -1,15 +1,9 @@
--- `device::Device::power_up` meets its contract. Assumes nothing.
+-- `device::Device::power_up` meets its contract.
 use Rattle.device.proofs.Calls.{power-up-done, power-up-refused}
 use mathlib.Core.Path.{sym, _∙_}
 use borrow.Author.Needs.{needs}
 use Rattle.device.proofs.Device.power_up.Statement.{statement}
 use Rattle.device.proofs.Device.power_up.Tie as tie
-
-sound-requires : tie.Need-sound-requires
-sound-requires c κs = search needs
-
-powered-up-requires : tie.Need-powered-up-requires
-powered-up-requires c κs = search needs
 
 returns : tie.Need-returns
 returns c = rw (c .powered-up .ensures) (sym (power-up-done _ (sym (c .before .before .sound .ensures) ∙ c .before .if1 .taken)))
@@ -18,4 +12,4 @@ returns-2 : tie.Need-returns-2
 returns-2 c = sym (power-up-refused _ (sym (c .before .sound .ensures) ∙ c .if1 .left))
 
 pub power-up-spec : {M : Type 1} → statement M
-power-up-spec = tie.close (tie.spec sound-requires powered-up-requires returns returns-2)
+power-up-spec = tie.close (tie.spec (λ c κs. search needs) (λ c κs. search needs) returns returns-2)

@@ -1,19 +1,13 @@
--- `device::Device::running` meets its contract. Assumes nothing.
+-- `device::Device::running` meets its contract.
 use mathlib.Core.Path.{_∙_}
 use Rattle.device.specs.Device.{running}
 use borrow.Author.Needs.{needs}
 use Rattle.device.proofs.Device.running.Statement.{statement}
 use Rattle.device.proofs.Device.running.Tie as tie
 
-latch-at-requires : tie.Need-latch-at-requires
-latch-at-requires c κs = search needs
-
-moded-requires : tie.Need-moded-requires
-moded-requires c κs = search needs
-
 returns : tie.Need-returns
 unfolding running
 returns c = c .moded .ensures ∙ rw (c .before .latch-at .ensures)
 
 pub running-spec : {M : Type 1} → statement M
-running-spec = tie.close (tie.spec latch-at-requires moded-requires returns)
+running-spec = tie.close (tie.spec (λ c κs. search needs) (λ c κs. search needs) returns)

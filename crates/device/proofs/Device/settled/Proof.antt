@@ -1,4 +1,4 @@
--- `device::Device::settled` meets its contract. Assumes nothing.
+-- `device::Device::settled` meets its contract.
 use mathlib.Core.Path.{refl}
 use Rattle.device.specs.Device.{settled}
 use Rattle.device.proofs.Device.settled.Statement.{statement}

@@ -1,22 +1,10 @@
--- `device::Device::status` meets its contract. Assumes nothing.
+-- `device::Device::status` meets its contract.
 use native.Mathlib.Omega.{arith}
 use Rattle.device.specs.Device.{statusByte}
 use Rattle.device.proofs.Calls.{weight, busy-weight}
 use borrow.Author.Needs.{needs}
 use Rattle.device.proofs.Device.status.Statement.{statement}
 use Rattle.device.proofs.Device.status.Tie as tie
-
-when-requires : tie.Need-when-requires
-when-requires c κs = search needs
-
-when-requires-2 : tie.Need-when-requires-2
-when-requires-2 c κs = search needs
-
-busy-bit-requires : tie.Need-busy-bit-requires
-busy-bit-requires c κs = search needs
-
-mul-result : tie.Need-mul-result
-mul-result c = search needs
 
 add-result : tie.Need-add-result
 add-result c = let d = c .before .before .before .before .args .self in omega (arith, c .before .before .before .when .ensures, weight (d .srwd) 128)
@@ -36,12 +24,4 @@ returns c = cc
 pub status-spec : {M : Type 1} → statement M
 status-spec =
     tie.close
-    (tie.spec
-    when-requires
-    when-requires-2
-    busy-bit-requires
-    mul-result
-    add-result
-    add-result-2
-    add-result-3
-    returns)
+    (tie.spec (λ c κs. search needs) (λ c κs. search needs) (λ c κs. search needs) (λ c. search needs) add-result add-result-2 add-result-3 returns)

@@ -1,28 +1,10 @@
--- `device::Device::waited` meets its contract. Assumes nothing.
+-- `device::Device::waited` meets its contract.
 use mathlib.Core.Path.{_∙_}
 use borrow.Author.Tests.{lt-ltb, le-ltb}
 use Rattle.device.specs.Device.{waited}
 use borrow.Author.Needs.{needs}
 use Rattle.device.proofs.Device.waited.Statement.{statement}
 use Rattle.device.proofs.Device.waited.Tie as tie
-
-enum-told : tie.Need-enum-told
-enum-told c = search needs
-
-enum-known-mode : tie.Need-enum-known-mode
-enum-known-mode c = search needs
-
-sub-running : tie.Need-sub-running
-sub-running c = search needs
-
-running-requires : tie.Need-running-requires
-running-requires c κs = search needs
-
-moded-requires : tie.Need-moded-requires
-moded-requires c κs = search needs
-
-enum-told-2 : tie.Need-enum-told-2
-enum-told-2 c = search needs
 
 returns : tie.Need-returns
 unfolding waited
@@ -43,14 +25,4 @@ returns-4 c = rw (c .enum-told2 .given .1)
 pub waited-spec : {M : Type 1} → statement M
 waited-spec =
     tie.close
-    (tie.spec
-    enum-told
-    enum-known-mode
-    sub-running
-    running-requires
-    moded-requires
-    enum-told-2
-    returns
-    returns-2
-    returns-3
-    returns-4)
+    (tie.spec (λ c. search needs) (λ c. search needs) (λ c. search needs) (λ c κs. search needs) (λ c κs. search needs) (λ c. search needs) returns returns-2 returns-3 returns-4)

@@ -1,4 +1,4 @@
--- `device::packing::mode_of` meets its contract. Assumes nothing.
+-- `device::packing::mode_of` meets its contract.
 use borrow.Author.Tests.{ne-eqb}
 use Rattle.device.proofs.packing.mode_of.Statement.{statement}
 use Rattle.device.proofs.packing.mode_of.Tie as tie

@@ -1,4 +1,4 @@
--- `device::packing::unpack` meets its contract. Assumes nothing.
+-- `device::packing::unpack` meets its contract.
 use mathlib.Core.Path.{_≡_, sym}
 use mathlib.Core.Bool.{true, false, _&&_}
 use denote.Ref.{now}
@@ -9,43 +9,24 @@ use borrow.Author.Needs.{needs}
 use Rattle.device.proofs.packing.unpack.Statement.{statement}
 use Rattle.device.proofs.packing.unpack.Tie as tie
 
-zero-requires : tie.Need-zero-requires
-zero-requires c κs = search needs
-
 returns : tie.Need-returns
 returns c = rw (c .zero .ensures) (sym (unpacked-long _ (c .before .if1 .taken)))
 
-fields-requires : tie.Need-fields-requires
-fields-requires c κs = search needs
-
-well-formed-requires : tie.Need-well-formed-requires
-well-formed-requires c κs = search needs
-
-sound-requires : tie.Need-sound-requires
-sound-requires c κs = search needs
-
-zero-requires-2 : tie.Need-zero-requires-2
-zero-requires-2 c κs = search needs
-
 returns-2 : tie.Need-returns-2
-returns-2 c = let b = now (c .before .before .before .before .before .before .args .packed) in
+unfolding formed
+returns-2 c =
+    let b = now (c .before .before .before .before .before .before .args .packed) in
     let t : formed b && sound (fieldsOf b) ≡ true = cc in
     rw (c .before .before .before .fields .ensures) (sym (unpacked-good b (c .before .before .before .before .if1 .left) t))
 
 returns-3 : tie.Need-returns-3
-returns-3 c = let b = now (c .before .before .before .before .before .before .before .args .packed) in
+unfolding formed
+returns-3 c =
+    let b = now (c .before .before .before .before .before .before .before .args .packed) in
     let t : formed b && sound (fieldsOf b) ≡ false = cc in
     rw (c .zero2 .ensures) (sym (unpacked-bad b (c .before .before .before .before .before .if1 .left) t))
 
 pub unpack-spec : {M : Type 1} → statement M
 unpack-spec =
     tie.close
-    (tie.spec
-    zero-requires
-    returns
-    fields-requires
-    well-formed-requires
-    sound-requires
-    zero-requires-2
-    returns-2
-    returns-3)
+    (tie.spec (λ c κs. search needs) returns (λ c κs. search needs) (λ c κs. search needs) (λ c κs. search needs) (λ c κs. search needs) returns-2 returns-3)
