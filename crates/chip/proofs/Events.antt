@@ -17,7 +17,7 @@ use Rattle.chip.specs.declared.answers.Verdict.{Verdict}
 use Rattle.chip.specs.declared.answers.Verdict.the-variants.{Refused, Ignored, Executed}
 use Rattle.chip.specs.declared.Answer.{Answer}
 use Rattle.chip.specs.Table.{addressOf, rowIn}
-use Rattle.chip.specs.Answers.{refusal, ignorance, decided, verdictOf}
+use Rattle.chip.specs.Answers.{hostNumber, chipNumber, decided, verdictOf}
 use Rattle.chip.specs.Line.{heardRow, lined, firstOf, countOf}
 use Rattle.chip.specs.Outcome.{outcomeOf, transacted}
 use Rattle.chip.specs.Events.{Chip, Good, Event, sends, waits, starts, Told, sent, after, told, run, story}
@@ -146,8 +146,8 @@ run-alike (e ∷ es) a b k =
 -- ---- the response
 
 -- none of 6, 2, 3, 4, 5
-pub no-refusal : (d : Device) (len n p r : ℕ) → sound d ≡ true → len ≡ figuresOf (d .part) .bytes → n ≤ 65536 → p ≤ 7 → n ≤ r → refusal d len n p r ≡ 0
-unfolding refusal
+pub no-refusal : (d : Device) (len n p r : ℕ) → sound d ≡ true → len ≡ figuresOf (d .part) .bytes → n ≤ 65536 → p ≤ 7 → n ≤ r → hostNumber d len n p r ≡ 0
+unfolding hostNumber
 no-refusal d len n p r s l m q h = rw (s, eq-eqb len (figuresOf (d .part) .bytes) l, le-ltb 65536 n m, le-ltb 7 p q, le-ltb r n h)
 
 module _ (c : Chip) (g : Good c) (bytes : List ℕ) (p : ℕ) (w : Bool) (few : length bytes ≤ 65536) (pulses : p ≤ 7) where
@@ -157,7 +157,7 @@ module _ (c : Chip) (g : Good c) (bytes : List ℕ) (p : ℕ) (w : Bool) (few : 
   long : length zeros ≡ length bytes
   long = length-replicate (length bytes) 0
 
-  fine : (r : ℕ) → length bytes ≤ r → refusal (c .device) (length (c .array)) (length bytes) p r ≡ 0
+  fine : (r : ℕ) → length bytes ≤ r → hostNumber (c .device) (length (c .array)) (length bytes) p r ≡ 0
   fine r room = no-refusal (c .device) (length (c .array)) (length bytes) p r (g .sound) (g .whole) few pulses room
 
   -- a response with room: number, first, count, record and array are those of the event
@@ -167,7 +167,7 @@ module _ (c : Chip) (g : Good c) (bytes : List ℕ) (p : ℕ) (w : Bool) (few : 
   unfolding sent transacted verdictOf outcomeOf
   any-response r room =
       let own : length bytes ≤ length zeros = omega (arith, long) in
-      let v : Verdict = decided 0 (ignorance (c .device) (rowIn (c .device) bytes) (length bytes) p w (addressOf (figuresOf (c .device .part)) bytes)) in
+      let v : Verdict = decided 0 (chipNumber (c .device) (rowIn (c .device) bytes) (length bytes) p w (addressOf (figuresOf (c .device .part)) bytes)) in
       rw (fine (length r) room, fine (length zeros) own) (same-answer (c .device) (c .array) (c .array) bytes r zeros v, same-device (c .device) (c .array) (c .array) bytes r zeros v, same-array v)
     where
       same-array : (v : Verdict) → outcomeOf v (c .device) (c .array) bytes r .array ≡ outcomeOf v (c .device) (c .array) bytes zeros .array
@@ -188,7 +188,7 @@ module _ (c : Chip) (g : Good c) (bytes : List ℕ) (p : ℕ) (w : Bool) (few : 
       blank : mapAt (window 0 (length bytes) (put 255)) r ≡ mapAt (window 0 (length bytes) (put 255)) zeros
       blank = map-blind _ r zeros (e ∙ sym long) (λ i x y lt. let k : i < length bytes = rw (← long) lt in window-in 0 (length bytes) (put 255) i x (omega arith) k ∙ sym (window-in 0 (length bytes) (put 255) i y (omega arith) k))
 
-      go : {v : Verdict} → Decision (refusal (c .device) (length (c .array)) (length bytes) p (length r)) (ignorance (c .device) (rowIn (c .device) bytes) (length bytes) p w (addressOf (figuresOf (c .device .part)) bytes)) v
+      go : {v : Verdict} → Decision (hostNumber (c .device) (length (c .array)) (length bytes) p (length r)) (chipNumber (c .device) (rowIn (c .device) bytes) (length bytes) p w (addressOf (figuresOf (c .device .part)) bytes)) v
           → outcomeOf v (c .device) (c .array) bytes r ≡ outcomeOf v (c .device) (c .array) bytes zeros
       go (refuses a) = absurd (a (fine (length r) (omega arith)))
       go (ignores a b) = rw blank
@@ -200,12 +200,12 @@ unfolding sent
 line-length c bytes p w = response-length (c .device) (c .array) bytes p w (replicate (length bytes) 0) ∙ length-replicate (length bytes) 0
 
 -- a call that the host side refuses changes nothing: record, array and response are as they came
-pub refused-nothing : (c : Chip) (bytes : List ℕ) (p : ℕ) (w : Bool) (r : List ℕ) → (refusal (c .device) (length (c .array)) (length bytes) p (length r) ≡ 0 → ⊥)
+pub refused-nothing : (c : Chip) (bytes : List ℕ) (p : ℕ) (w : Bool) (r : List ℕ) → (hostNumber (c .device) (length (c .array)) (length bytes) p (length r) ≡ 0 → ⊥)
     → (transacted (c .device) (c .array) bytes p w r .device ≡ c .device) × (transacted (c .device) (c .array) bytes p w r .array ≡ c .array) × (transacted (c .device) (c .array) bytes p w r .response ≡ r)
 unfolding transacted outcomeOf
 refused-nothing c bytes p w r h = go (verdict-is (c .device) (length (c .array)) bytes p w (length r))
   where
-    go : {v : Verdict} → Decision (refusal (c .device) (length (c .array)) (length bytes) p (length r)) (ignorance (c .device) (rowIn (c .device) bytes) (length bytes) p w (addressOf (figuresOf (c .device .part)) bytes)) v
+    go : {v : Verdict} → Decision (hostNumber (c .device) (length (c .array)) (length bytes) p (length r)) (chipNumber (c .device) (rowIn (c .device) bytes) (length bytes) p w (addressOf (figuresOf (c .device .part)) bytes)) v
         → (outcomeOf v (c .device) (c .array) bytes r .device ≡ c .device) × (outcomeOf v (c .device) (c .array) bytes r .array ≡ c .array) × (outcomeOf v (c .device) (c .array) bytes r .response ≡ r)
     go (refuses a) = (refl, refl, refl)
     go (ignores a b) = absurd (h a)

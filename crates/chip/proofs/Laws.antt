@@ -26,7 +26,7 @@ use Rattle.chip.specs.declared.line.Span.{Span}
 use Rattle.chip.specs.declared.answers.Verdict.{Verdict}
 use Rattle.chip.specs.declared.Answer.{Answer}
 use Rattle.chip.specs.Table.{addressOf, onlyIf, instructionIn}
-use Rattle.chip.specs.Answers.{refusal, ignorance, decided, verdictOf, deliveryAnswer}
+use Rattle.chip.specs.Answers.{hostNumber, chipNumber, decided, verdictOf, deliveryAnswer}
 use Rattle.chip.specs.Line.{Driven, silent, drives, onLine, kth, heard, heardRow, driven, lined, driving, drivingAt, firstFrom, firstOf, countOf, spanOf}
 use Rattle.chip.specs.Outcome.{Outcome, outcomeOf, transacted, Meets, Transacted, Foreseen, Delivered}
 use Rattle.chip.proofs.Lines.{driven-from, driven-before, span-is}
@@ -100,7 +100,7 @@ count-le d array sent = sum-within 0 (λ i x. drivingAt d array sent i) sent (λ
 
 -- what the code judges of the instruction that it read is the verdict
 pub verdict-so : (d : Device) (array : ℕ) (sent : List ℕ) (pulses : ℕ) (w : Bool) (response : ℕ) (i : Instruction) {v : Verdict} → i ≡ instructionIn d sent
-    → v ≡ decided (refusal d array (length sent) pulses response) (ignorance d (i .row) (length sent) pulses w (i .address)) → verdictOf d array sent pulses w response ≡ v
+    → v ≡ decided (hostNumber d array (length sent) pulses response) (chipNumber d (i .row) (length sent) pulses w (i .address)) → verdictOf d array sent pulses w response ≡ v
 unfolding verdictOf
 verdict-so d array sent pulses w response i e h = sym (h ∙ rw e)
 

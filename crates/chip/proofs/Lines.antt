@@ -19,7 +19,7 @@ use Rattle.slices.proofs.Sums.{sum-none, sum-count}
 use Rattle.parts.specs.declared.Figures.{Figures}
 use Rattle.parts.specs.Parts.{figuresOf}
 use Rattle.device.specs.declared.Device.{Device}
-use Rattle.device.specs.Device.{statusByte}
+use Rattle.device.specs.Device.{isBusy, isDeep, statusByte}
 use Rattle.device.specs.declared.cycle.Kind.{Kind}
 use Rattle.chip.specs.declared.table.Turn.{Turn}
 use Rattle.chip.specs.declared.table.Drive.{Drive}
@@ -28,7 +28,7 @@ use Rattle.chip.specs.declared.table.Row.{Row}
 use Rattle.chip.specs.declared.line.Span.{Span}
 use Rattle.chip.specs.declared.answers.Verdict.{Verdict}
 use Rattle.chip.specs.Table.{longest, order, write, unknown, rowOf, addressOf, rowIn, onStart}
-use Rattle.chip.specs.Answers.{refusal, isBusy, isDeep, isSettings, guardedIn, asNeeded, ignorance}
+use Rattle.chip.specs.Answers.{hostNumber, isSettings, guardedIn, asNeeded, chipNumber}
 use Rattle.chip.proofs.Rows.{rows-ind}
 use Rattle.chip.specs.Line.{Driven, silent, drives, onLine, kth, byRow, heard, heardRow, driven, lined, drivingAt, firstFrom, firstOf, countOf, noSpan, fromOn, spanOf}
 use Rattle.chip.specs.Outcome.{Outcome, outcomeOf, transacted}
@@ -251,8 +251,8 @@ module _ (d : Device) (array sent : List ℕ) where
 -- ---- the answer, the response and what was driven
 
 -- a reading that is taken at all and gets past its first driven position is executed
-reading-taken : (d : Device) (r : Row) (n pulses : ℕ) (w : Bool) (at : ℕ) → heard d r ≡ true → Reads r → r .from < n → n ≤ longest → ignorance d r n pulses w at ≡ 0
-unfolding heard ignorance asNeeded
+reading-taken : (d : Device) (r : Row) (n pulses : ℕ) (w : Bool) (at : ℕ) → heard d r ≡ true → Reads r → r .from < n → n ≤ longest → chipNumber d r n pulses w at ≡ 0
+unfolding heard chipNumber asNeeded
 reading-taken d r n pulses w at h e lt le =
     let p = both (r .known) ((not (isBusy (d .mode)) || r .busy) && (not (isDeep (d .mode)) || r .deep)) h in
     let q = both (not (isBusy (d .mode)) || r .busy) (not (isDeep (d .mode)) || r .deep) (p .1) in
@@ -278,7 +278,7 @@ reading-taken d r n pulses w at h e lt le =
 
 -- where the chip ignores, nothing is driven
 pub ignored-silent : (d : Device) (array sent : List ℕ) (pulses : ℕ) (w : Bool) → length sent ≤ longest
-    → (ignorance d (rowIn d sent) (length sent) pulses w (addressOf (figuresOf (d .part)) sent) ≡ 0 → ⊥)
+    → (chipNumber d (rowIn d sent) (length sent) pulses w (addressOf (figuresOf (d .part)) sent) ≡ 0 → ⊥)
     → (i : ℕ) → i < length sent → driven d array (take i sent) ≡ silent
 unfolding heardRow
 ignored-silent d array sent pulses w le some i lt = by-row (heard d (rowIn d sent)) refl (row-laws (figuresOf (d .part)) (getD sent 0 0) .reads)
@@ -338,7 +338,7 @@ module _ (d : Device) (array sent : List ℕ) (i : ℕ) (lt : i < length sent) w
       by-drive Array e = at-places (span-is d array sent Array e) (by-span (λ k. rw e) (ltb from (length sent)) refl)
       by-drive Signature e = at-places (span-is d array sent Signature e) (by-span (λ k. rw e) (ltb from (length sent)) refl)
 
-  module _ (pulses : ℕ) (w : Bool) (response : List ℕ) (fine : refusal d (length array) (length sent) pulses (length response) ≡ 0) where
+  module _ (pulses : ℕ) (w : Bool) (response : List ℕ) (fine : hostNumber d (length array) (length sent) pulses (length response) ≡ 0) where
     -- the line of every call that is not refused
     pub line-is-driven : LineIs d array sent (transacted d array sent pulses w response) i
     unfolding transacted outcomeOf lined
@@ -360,7 +360,7 @@ module _ (d : Device) (array sent : List ℕ) (i : ℕ) (lt : i < length sent) w
         blank = getD-map (window 0 (length sent) (put 255)) response i 0 room ∙ window-in 0 (length sent) (put 255) i (getD response i 0) (omega arith) lt
 
         by-verdict : {v : Verdict}
-            → Decision (refusal d (length array) (length sent) pulses (length response)) (ignorance d (rowIn d sent) (length sent) pulses w (addressOf (figuresOf (d .part)) sent)) v
+            → Decision (hostNumber d (length array) (length sent) pulses (length response)) (chipNumber d (rowIn d sent) (length sent) pulses w (addressOf (figuresOf (d .part)) sent)) v
             → LineIs d array sent (outcomeOf v d array sent response) i
         by-verdict (refuses a) = absurd (a fine)
         by-verdict (ignores a b) =
@@ -379,7 +379,7 @@ module _ (d : Device) (array sent : List ℕ) (i : ℕ) (lt : i < length sent) w
     ignored-is-silent other = by-verdict (verdict-is d (length array) sent pulses w (length response)) other
       where
         by-verdict : {v : Verdict}
-            → Decision (refusal d (length array) (length sent) pulses (length response)) (ignorance d (rowIn d sent) (length sent) pulses w (addressOf (figuresOf (d .part)) sent)) v
+            → Decision (hostNumber d (length array) (length sent) pulses (length response)) (chipNumber d (rowIn d sent) (length sent) pulses w (addressOf (figuresOf (d .part)) sent)) v
             → (outcomeOf v d array sent response .answer .number ≡ 0 → ⊥) → driven d array (take i sent) ≡ silent
         by-verdict (refuses a) o = absurd (a fine)
         by-verdict (ignores a b) o = ignored-silent d array sent pulses w (not-refused d (length array) (length sent) pulses (length response) fine .short) b i lt
@@ -387,7 +387,7 @@ module _ (d : Device) (array sent : List ℕ) (i : ℕ) (lt : i < length sent) w
 
 -- two calls that are not refused and agree before byte i have the same byte i in the response
 pub same-so-far : (d : Device) (array sent sent′ : List ℕ) (pulses pulses′ : ℕ) (w w′ : Bool) (response response′ : List ℕ)
-    → refusal d (length array) (length sent) pulses (length response) ≡ 0 → refusal d (length array) (length sent′) pulses′ (length response′) ≡ 0
+    → hostNumber d (length array) (length sent) pulses (length response) ≡ 0 → hostNumber d (length array) (length sent′) pulses′ (length response′) ≡ 0
     → (i : ℕ) → i < length sent → i < length sent′ → take i sent ≡ take i sent′
     → getD (transacted d array sent pulses w response .response) i 0 ≡ getD (transacted d array sent′ pulses′ w′ response′ .response) i 0
 same-so-far d array sent sent′ pulses pulses′ w w′ response response′ f f′ i l l′ e =

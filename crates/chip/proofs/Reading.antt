@@ -17,7 +17,7 @@ use Rattle.chip.specs.declared.table.Turn.the-variants.{Keep}
 use Rattle.chip.specs.declared.table.Drive.the-variants.{Array}
 use Rattle.chip.specs.declared.answers.Verdict.the-variants.{Executed}
 use Rattle.chip.specs.Table.{reading, rowOf, addressOf, rowIn}
-use Rattle.chip.specs.Answers.{ignorance, asNeeded, decided, verdictOf}
+use Rattle.chip.specs.Answers.{chipNumber, asNeeded, decided, verdictOf}
 use Rattle.chip.specs.Line.{heard, heardRow, lined}
 use Rattle.chip.specs.Change.{changed, turned}
 use Rattle.chip.specs.Outcome.{Outcome, outcomeOf, transacted}
@@ -56,8 +56,8 @@ module _ (c : Chip) (g : Good c) (rests : c .device .mode ≡ Standby) (sent : L
   row-is : rowIn d sent ≡ reading from Array from Keep
   row-is = row-of d k
 
-  chip-is : ignorance d (rowIn d sent) (length sent) p w at ≡ 0
-  unfolding ignorance asNeeded
+  chip-is : chipNumber d (rowIn d sent) (length sent) p w at ≡ 0
+  unfolding chipNumber asNeeded
   chip-is =
       let n : length sent ≡ 0 → ⊥ = λ z. omega (arith, enough k .0) in
       rw (row-is, rests, ne-eqb (length sent) 0 n, le-leb from (length sent) least, le-leb (length sent) 65536 few)

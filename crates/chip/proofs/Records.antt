@@ -16,13 +16,12 @@ use Rattle.device.specs.declared.Device.{Device}
 use Rattle.device.specs.declared.cycle.Kind.{Kind}
 use Rattle.device.specs.declared.cycle.Kind.the-variants.{Settings, Page, Sector, All}
 use Rattle.device.specs.Cycles.{durationOf}
-use Rattle.device.specs.Device.{moded, settled, running, latchAt, rangedOf, sound, busyBit, waitedIn, waited, poweredUp, soundAnswer, waitCall, powerUpCall}
+use Rattle.device.specs.Device.{isBusy, moded, settled, running, latchAt, rangedOf, sound, waitedIn, waited, poweredUp, soundAnswer, waitCall, powerUpCall}
 use Rattle.device.specs.Device as record-is
 use Rattle.device.proofs.Sound.{sound-has, standby-sound, deep-sound, latched-sound, settled-sound, running-sound, waited-sound, powered-sound}
 use Rattle.chip.specs.declared.table.Turn.{Turn}
 use Rattle.chip.specs.declared.table.Turn.the-variants.{Keep, Enable, Disable, Start, Sleep, Wake}
 use Rattle.chip.specs.Table.{rowOf}
-use Rattle.chip.specs.Answers.{isBusy}
 use Rattle.chip.specs.Change.{srwdIn, bpIn, settledBy, turned}
 use Rattle.chip.proofs.Rows.{rows-ind}
 
@@ -57,12 +56,6 @@ bp-fits p b =
     (le-leb (b / 4 % 8) 7 (omega arith))
     p
 
--- no cycle runs
-idle : (m : Mode) → isBusy m ≡ false → busyBit m ≡ 0
-idle Standby h = refl
-idle (Busy t) h = absurd (false≢true (sym h))
-idle Deep h = refl
-
 rest-if : (a b : Bool) → (a ≡ true → b ≡ true) → b ≡ false → a ≡ false
 rest-if true b h e = sym (h refl) ∙ e
 rest-if false b h e = refl
@@ -85,8 +78,8 @@ pub turned-sound : (t : Turn) (d : Device) (b code : ℕ) (busy : Bool) → Turn
     → sound (turned t (figuresOf (d .part)) d b) ≡ true
 unfolding turned
 turned-sound Keep d b code busy t h s = s
-turned-sound Enable d b code busy t h s = latched-sound d true s (idle (d .mode) (rest-if (isBusy (d .mode)) busy h t))
-turned-sound Disable d b code busy t h s = latched-sound d false s (idle (d .mode) (rest-if (isBusy (d .mode)) busy h t))
+turned-sound Enable d b code busy t h s = latched-sound d true s (rest-if (isBusy (d .mode)) busy h t)
+turned-sound Disable d b code busy t h s = latched-sound d false s (rest-if (isBusy (d .mode)) busy h t)
 turned-sound (Start k) d b code busy t h s = running-sound (settledBy k (figuresOf (d .part)) d b) (durationOf k d) (settled-by-sound k d b s) (duration-fits k d s)
 turned-sound Sleep d b code busy t h s = deep-sound d (d .latch) s t
 turned-sound Wake d b code busy t h s = standby-sound d (d .latch) s

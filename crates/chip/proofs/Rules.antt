@@ -19,7 +19,7 @@ use Rattle.parts.proofs.Laws.{figures-ind}
 use Rattle.device.specs.declared.Mode.{Mode}
 use Rattle.device.specs.declared.Mode.the-variants.{Standby, Busy, Deep}
 use Rattle.device.specs.declared.Device.{Device}
-use Rattle.device.specs.Device.{sound, busyBit, statusByte}
+use Rattle.device.specs.Device.{isBusy, isDeep, sound, statusByte}
 use Rattle.device.specs.declared.cycle.Kind.{Kind}
 use Rattle.device.specs.declared.cycle.Kind.the-variants.{Settings, Page, Sector, All}
 use Rattle.device.specs.Cycles.{touchedIn, touched}
@@ -32,7 +32,7 @@ use Rattle.chip.specs.declared.Answer.{Answer}
 use Rattle.chip.specs.declared.answers.Verdict.{Verdict}
 use Rattle.chip.specs.declared.answers.Verdict.the-variants.{Refused, Ignored, Executed}
 use Rattle.chip.specs.Table.{addressOf, rowIn}
-use Rattle.chip.specs.Answers.{refusal, isBusy, isDeep, writesSettings, guarded, asNeeded, ignorance}
+use Rattle.chip.specs.Answers.{hostNumber, writesSettings, guarded, asNeeded, chipNumber}
 use Rattle.chip.specs.Line.{Driven, onLine, kth, identification, byRow, heardRow, driven, lined}
 use Rattle.chip.specs.Change.{cycleOf, changed, asItWas, turned}
 use Rattle.chip.proofs.Rows.{start-ind}
@@ -58,8 +58,8 @@ numbers = 0 ∷ 2 ∷ 3 ∷ 4 ∷ 5 ∷ 6 ∷ 11 ∷ 12 ∷ 13 ∷ 14 ∷ 15 ∷
 abbrev OfHost : ℕ → Type 0
 OfHost k = (listed k numbers ≡ true) × (k ≤ 8)
 
-host-number : (d : Device) (array n pulses response : ℕ) → OfHost (refusal d array n pulses response)
-unfolding refusal
+host-number : (d : Device) (array n pulses response : ℕ) → OfHost (hostNumber d array n pulses response)
+unfolding hostNumber
 host-number d array n pulses response =
     cond-ind OfHost (not (sound d)) (refl, lit≤ tt)
     (cond-ind OfHost (not (eqb array (figuresOf (d .part) .bytes))) (refl, lit≤ tt)
@@ -70,8 +70,8 @@ host-number d array n pulses response =
 abbrev OfChip : ℕ → Type 0
 OfChip k = (listed k numbers ≡ true) × ((k ≡ 0 → ⊥) → 11 ≤ k) × (k ≤ 18)
 
-chip-number : (d : Device) (r : Row) (n pulses : ℕ) (w : Bool) (at : ℕ) → OfChip (ignorance d r n pulses w at)
-unfolding ignorance
+chip-number : (d : Device) (r : Row) (n pulses : ℕ) (w : Bool) (at : ℕ) → OfChip (chipNumber d r n pulses w at)
+unfolding chipNumber
 chip-number d r n pulses w at =
     cond-ind OfChip (eqb n 0) (refl, λ h. lit≤ tt, lit≤ tt)
     (cond-ind OfChip (not (r .known)) (refl, λ h. lit≤ tt, lit≤ tt)
@@ -136,18 +136,14 @@ identification-byte f (suc zero) h = h .«memory-type»
 identification-byte f (suc (suc zero)) h = h .capacity
 identification-byte f (suc (suc (suc k))) h = lit< tt
 
-busy-few : (m : Mode) → busyBit m ≤ 1
-busy-few Standby = lit≤ tt
-busy-few (Busy t) = lit≤ tt
-busy-few Deep = lit≤ tt
-
 -- the status byte is a byte
 pub status-byte : (d : Device) → statusByte d < 256
 unfolding statusByte
 status-byte d =
     let s : cond (d .srwd) 128 0 ≤ 128 = cond-ind (λ (n : ℕ). n ≤ 128) (d .srwd) (lit≤ tt) (lit≤ tt) in
     let l : cond (d .latch) 2 0 ≤ 2 = cond-ind (λ (n : ℕ). n ≤ 2) (d .latch) (lit≤ tt) (lit≤ tt) in
-    omega (arith, busy-few (d .mode))
+    let b : cond (isBusy (d .mode)) 1 0 ≤ 1 = cond-ind (λ (n : ℕ). n ≤ 1) (isBusy (d .mode)) (lit≤ tt) (lit≤ tt) in
+    omega arith
 
 getD-byte : (xs : List ℕ) (i : ℕ) → Bytes xs → getD xs i 255 < 256
 getD-byte xs i b = go (ltb i (length xs)) refl
@@ -179,10 +175,10 @@ module _ (d : Device) (array sent : List ℕ) (pulses : ℕ) (w : Bool) (respons
   out = transacted d array sent pulses w response
 
   abbrev pub host : ℕ
-  host = refusal d (length array) (length sent) pulses (length response)
+  host = hostNumber d (length array) (length sent) pulses (length response)
 
   abbrev pub chip : ℕ
-  chip = ignorance d (rowIn d sent) (length sent) pulses w (addressOf (figuresOf (d .part)) sent)
+  chip = chipNumber d (rowIn d sent) (length sent) pulses w (addressOf (figuresOf (d .part)) sent)
 
   -- what holds of each of the three outcomes holds of the outcome
   pub outcome-ind : (P : Outcome → Type 0) → ((host ≡ 0 → ⊥) → P (outcomeOf (Refused host) d array sent response))

@@ -11,12 +11,12 @@ use lib.ListN.{length}
 use Rattle.slices.proofs.Choices.{both, past}
 use Rattle.parts.specs.Parts.{figuresOf}
 use Rattle.device.specs.declared.Device.{Device}
-use Rattle.device.specs.Device.{sound}
+use Rattle.device.specs.Device.{isBusy, isDeep, sound}
 use Rattle.chip.specs.declared.table.Row.{Row}
 use Rattle.chip.specs.declared.answers.Verdict.{Verdict}
 use Rattle.chip.specs.declared.answers.Verdict.the-variants.{Refused, Ignored, Executed}
 use Rattle.chip.specs.Table.{addressOf, rowIn}
-use Rattle.chip.specs.Answers.{refusal, isBusy, isDeep, writesSettings, guarded, asNeeded, ignorance, decided, verdictOf}
+use Rattle.chip.specs.Answers.{hostNumber, writesSettings, guarded, asNeeded, chipNumber, decided, verdictOf}
 
 -- ---- tests
 
@@ -41,8 +41,8 @@ pub record Host (d : Device) (array n pulses response : ℕ) : Type 0 where
   pub room : n ≤ response
 
 -- no refusal: every test of the host side passed
-pub not-refused : (d : Device) (array n pulses response : ℕ) → refusal d array n pulses response ≡ 0 → Host d array n pulses response
-unfolding refusal
+pub not-refused : (d : Device) (array n pulses response : ℕ) → hostNumber d array n pulses response ≡ 0 → Host d array n pulses response
+unfolding hostNumber
 not-refused d array n pulses response h =
     let p6 = past (not (sound d)) 5 _ h in
     let p2 = past (not (eqb array (figuresOf (d .part) .bytes))) 1 _ (p6 .1) in
@@ -88,8 +88,8 @@ needs r n pulses e =
     }
 
 -- no ignorance: every test of the chip passed
-pub not-ignored : (d : Device) (r : Row) (n pulses : ℕ) (w : Bool) (at : ℕ) → ignorance d r n pulses w at ≡ 0 → Taken d r n pulses w at
-unfolding ignorance
+pub not-ignored : (d : Device) (r : Row) (n pulses : ℕ) (w : Bool) (at : ℕ) → chipNumber d r n pulses w at ≡ 0 → Taken d r n pulses w at
+unfolding chipNumber
 not-ignored d r n pulses w at h =
     let p11 = past (eqb n 0) 10 _ h in
     let p14 = past (not (r .known)) 13 _ (p11 .1) in
@@ -158,10 +158,10 @@ executed-by (executes a b) e = (a, b)
 module _ (d : Device) (array : ℕ) (sent : List ℕ) (pulses : ℕ) (w : Bool) (response : ℕ) where
   -- the number of the host and the number of the chip
   abbrev pub host : ℕ
-  host = refusal d array (length sent) pulses response
+  host = hostNumber d array (length sent) pulses response
 
   abbrev pub chip : ℕ
-  chip = ignorance d (rowIn d sent) (length sent) pulses w (addressOf (figuresOf (d .part)) sent)
+  chip = chipNumber d (rowIn d sent) (length sent) pulses w (addressOf (figuresOf (d .part)) sent)
 
   pub verdict-is : Decision host chip (verdictOf d array sent pulses w response)
   unfolding verdictOf

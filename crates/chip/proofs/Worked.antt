@@ -9,11 +9,11 @@ use lib.ListN.{length, getD, length-replicate}
 use Rattle.slices.specs.Changed.{mapAt, window, sumAt}
 use Rattle.memory.specs.Memory as memory-is
 use Rattle.parts.specs.Parts.{figuresOf}
-use Rattle.parts.specs.Protected.{protectedOf, columnOf, uncelled}
+use Rattle.parts.specs.Protected.{protectedOf, columnOf, byRule}
 use Rattle.device.specs.declared.Device.{Device}
 use Rattle.device.specs.Device.{waitCall, powerUpCall, soundAnswer, waited, poweredUp, sound, statusByte, moded, latched, settled, running, latchAt}
 use Rattle.chip.specs.Table.{rowOf, addressOf}
-use Rattle.chip.specs.Answers.{refusal, inProtected, asNeeded, ignorance, decided, verdictOf}
+use Rattle.chip.specs.Answers.{hostNumber, inProtected, asNeeded, chipNumber, decided, verdictOf}
 use Rattle.chip.specs.Line.{byRow, heard, heardRow, driven, lined, drivingAt, firstOf, countOf}
 use Rattle.device.specs.Cycles.{noSlots, touched}
 use Rattle.chip.specs.Change.{cycleOf, changed, bpIn, turned}
@@ -61,7 +61,7 @@ all-at (k ∷ ks) =
     (all-at ks)
 
 computed : T (allAt cases) × T (allAt further)
-unfolding allAt cases further seesAt mapAt window sumAt memory-is.blank memory-is.latched memory-is.programmed memory-is.erased figuresOf protectedOf columnOf uncelled waitCall powerUpCall soundAnswer waited poweredUp sound statusByte moded latched settled running latchAt rowOf addressOf refusal inProtected asNeeded ignorance decided verdictOf byRow heard heardRow driven lined drivingAt firstOf countOf noSlots cycleOf touched changed bpIn turned outcomeOf
+unfolding allAt cases further seesAt mapAt window sumAt memory-is.blank memory-is.filled memory-is.programmed memory-is.erased figuresOf protectedOf columnOf byRule waitCall powerUpCall soundAnswer waited poweredUp sound statusByte moded latched settled running latchAt rowOf addressOf hostNumber inProtected asNeeded chipNumber decided verdictOf byRow heard heardRow driven lined drivingAt firstOf countOf noSlots cycleOf touched changed bpIn turned outcomeOf
 computed = (tt, tt)
 
 -- K1 to K15 hold

@@ -7,10 +7,8 @@ use lib.ListN.{length}
 use Rattle.parts.specs.declared.Figures.{Figures}
 use Rattle.parts.specs.Parts.{figuresOf, knownPart}
 use Rattle.parts.specs.Protected.{protectedOf}
-use Rattle.device.specs.declared.Mode.{Mode}
-use Rattle.device.specs.declared.Mode.the-variants.{Standby, Busy, Deep}
 use Rattle.device.specs.declared.Device.{Device}
-use Rattle.device.specs.Device.{sound, rangedOf}
+use Rattle.device.specs.Device.{isBusy, isDeep, sound, rangedOf}
 use Rattle.device.specs.declared.cycle.Kind.{Kind}
 use Rattle.device.specs.declared.cycle.Kind.the-variants.{Settings, Page, Sector, All}
 use Rattle.chip.specs.declared.table.Turn.{Turn}
@@ -30,8 +28,8 @@ deliveryAnswer part array program sector bulk status =
     0))
 
 -- a transaction: 6, 2, 3, 4, 5, or 0
-unfoldable pub refusal : Device → ℕ → ℕ → ℕ → ℕ → ℕ
-refusal d array n pulses response =
+unfoldable pub hostNumber : Device → ℕ → ℕ → ℕ → ℕ → ℕ
+hostNumber d array n pulses response =
     cond (not (sound d)) 6
     (cond (not (eqb array (figuresOf (d .part) .bytes))) 2
     (cond (ltb longest n) 3
@@ -40,16 +38,6 @@ refusal d array n pulses response =
     0))))
 
 -- ---- the chip
-
-abbrev pub isBusy : Mode → Bool
-isBusy Standby = false
-isBusy (Busy left) = true
-isBusy Deep = false
-
-abbrev pub isDeep : Mode → Bool
-isDeep Standby = false
-isDeep (Busy left) = false
-isDeep Deep = true
 
 -- a cycle that writes the settings
 abbrev pub isSettings : Kind → Bool
@@ -82,8 +70,8 @@ unfoldable pub asNeeded : Row → ℕ → ℕ → Bool
 asNeeded r n pulses = leb (r .least) n && leb n (r .most) && (not (r .«no_pulses») || eqb pulses 0)
 
 -- the chip ignores: 11, 14, 12, 13, 15, 16, 17, 18, or 0
-unfoldable pub ignorance : Device → Row → ℕ → ℕ → Bool → ℕ → ℕ
-ignorance d r n pulses w at =
+unfoldable pub chipNumber : Device → Row → ℕ → ℕ → Bool → ℕ → ℕ
+chipNumber d r n pulses w at =
     cond (eqb n 0) 11
     (cond (not (r .known)) 14
     (cond (isBusy (d .mode) && not (r .busy)) 12
@@ -103,5 +91,5 @@ decided host chip = cond (eqb host 0) (cond (eqb chip 0) Executed (Ignored chip)
 -- what becomes of a transaction
 unfoldable pub verdictOf : Device → ℕ → List ℕ → ℕ → Bool → ℕ → Verdict
 verdictOf d array sent pulses w response =
-    decided (refusal d array (length sent) pulses response)
-    (ignorance d (rowIn d sent) (length sent) pulses w (addressOf (figuresOf (d .part)) sent))
+    decided (hostNumber d array (length sent) pulses response)
+    (chipNumber d (rowIn d sent) (length sent) pulses w (addressOf (figuresOf (d .part)) sent))

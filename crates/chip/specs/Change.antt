@@ -4,7 +4,7 @@ use mathlib.Core.List.{List}
 use Prim.Native.Nat.{ℕ, _/_, _%_}
 use lib.Dec.{eqb, leb}
 use lib.ListN.{drop}
-use Rattle.memory.specs.Memory.{blank, latched}
+use Rattle.memory.specs.Memory.{blank, filled}
 use Rattle.parts.specs.declared.Figures.{Figures}
 use Rattle.device.specs.declared.Mode.the-variants.{Standby, Deep}
 use Rattle.device.specs.declared.Device.{Device}
@@ -23,7 +23,7 @@ use Rattle.chip.specs.Table.{onStart}
 -- a cycle is a kind, an address and 256 slots, zero but for what its kind uses: a program's data, from byte 4 on, goes to a latch of 256 bytes, all FF at first
 abbrev pub cycleIn : Kind → ℕ → List ℕ → Cycle
 cycleIn Settings at sent = record { kind = Settings; address = 0; slots = noSlots }
-cycleIn Page at sent = record { kind = Page; address = at; slots = latched blank at (drop 4 sent) }
+cycleIn Page at sent = record { kind = Page; address = at; slots = filled blank at (drop 4 sent) }
 cycleIn Sector at sent = record { kind = Sector; address = at; slots = noSlots }
 cycleIn All at sent = record { kind = All; address = 0; slots = noSlots }
 

@@ -2,7 +2,6 @@
 pub mod Table
 pub mod Answers
 pub mod Line
-pub mod During
 pub mod Change
 pub mod Outcome
 pub mod Events

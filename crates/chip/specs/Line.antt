@@ -1,21 +1,22 @@
 -- Document 01, 'Response line': what the chip drives during a byte is fixed by the record, the array and the bytes before it.
 use mathlib.Core.Path.{_≡_}
-use mathlib.Core.Bool.{Bool, cond, not, _&&_, _||_}
+use mathlib.Core.Bool.{Bool, true, false, cond, not, _&&_, _||_}
 use mathlib.Core.List.{List, [], _∷_}
 use Prim.Native.Nat.{ℕ, suc, _+_, _-_, _%_}
 use lib.Dec.{eqb, leb, ltb}
 use lib.ListN.{length, getD, take}
 use Rattle.slices.specs.Changed.{mapAt, sumAt}
+use Rattle.memory.specs.Memory.{rolled}
 use Rattle.parts.specs.declared.Figures.{Figures}
 use Rattle.parts.specs.Parts.{figuresOf}
 use Rattle.device.specs.declared.Device.{Device}
-use Rattle.device.specs.Device.{statusByte}
+use Rattle.device.specs.Device.{isBusy, isDeep, statusByte}
 use Rattle.chip.specs.declared.table.Drive.{Drive}
 use Rattle.chip.specs.declared.table.Drive.the-variants.{Nothing, Identification, Status, Array, Signature}
 use Rattle.chip.specs.declared.table.Row.{Row}
 use Rattle.chip.specs.declared.line.Span.{Span}
+use Rattle.chip.specs.declared.line.LineByte.{LineByte}
 use Rattle.chip.specs.Table.{addressOf, onlyIf, rowIn}
-use Rattle.chip.specs.Answers.{isBusy, isDeep}
 
 -- what the chip does with the line during one byte
 pub data Driven : Type 0 where
@@ -36,7 +37,7 @@ abbrev pub kth : Drive → Figures → ℕ → List ℕ → ℕ → ℕ → Driv
 kth Nothing f status array at k = silent
 kth Identification f status array at k = drives (identification f k)
 kth Status f status array at k = drives status
-kth Array f status array at k = drives (getD array ((at + k) % length array) 255)
+kth Array f status array at k = drives (rolled array at k)
 kth Signature f status array at k = drives (f .signature)
 
 -- what a row drives after the bytes before
@@ -85,6 +86,11 @@ unfoldable pub countOf : Device → List ℕ → List ℕ → ℕ
 countOf d array sent = sumAt (λ i x. drivingAt d array sent i) sent
 
 -- ---- as the code finds them
+
+-- whether a byte is driven, and which; 0 where none is
+abbrev pub lineByte : Driven → LineByte
+lineByte silent = record { driven = false; byte = 0 }
+lineByte (drives b) = record { driven = true; byte = b }
 
 abbrev pub noSpan : Span
 noSpan = record { first = 0; count = 0 }

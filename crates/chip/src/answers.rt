@@ -3,14 +3,15 @@ ghost use mathlib.Core.Path.{_≡_};
 ghost use mathlib.Core.Bool.{cond, not, _&&_};
 ghost use Prim.Native.Nat.{_<_};
 ghost use Rattle.parts.specs.Parts.{figuresOf};
-ghost use Rattle.chip.specs.Answers.{refusal, isBusy, isDeep, isSettings, writesSettings, inProtected, guardedIn, guarded, asNeeded, ignorance, decided};
+ghost use Rattle.chip.specs.Answers.{hostNumber, isSettings, writesSettings, inProtected, guardedIn, guarded, asNeeded, chipNumber, decided};
 use crate::table::Instruction;
 use crate::table::LONGEST;
 use crate::table::Row;
 use crate::table::Turn;
 use device::Device;
-use device::Mode;
 use device::cycle::Kind;
+use device::is_busy;
+use device::is_deep;
 use parts::Figures;
 
 // What becomes of a transaction: refused by the host side, ignored by the chip, each with its number, or executed.
@@ -21,8 +22,8 @@ pub enum Verdict {
 }
 
 // The host's number, or 0.
-pub fn refused(device: Device, array: usize, n: usize, pulses: u32, response: usize) -> u8
-    ensures { λ r. ⌜ r ≡ refusal device array n pulses response ⌝ }
+pub fn host_number(device: Device, array: usize, n: usize, pulses: u32, response: usize) -> u8
+    ensures { λ r. ⌜ r ≡ hostNumber device array n pulses response ⌝ }
 {
     let figures = Figures::of(device.part);
     let sound = device.sound();
@@ -31,28 +32,6 @@ pub fn refused(device: Device, array: usize, n: usize, pulses: u32, response: us
     let x = slices::when(LONGEST < n, 3, x);
     let x = slices::when(array != figures.bytes, 2, x);
     slices::when(!sound, 6, x)
-}
-
-// Whether a cycle runs.
-pub(crate) fn is_busy(mode: Mode) -> bool
-    ensures { λ r. ⌜ r ≡ isBusy mode ⌝ }
-{
-    match mode {
-        Mode::Standby => false,
-        Mode::Busy(_) => true,
-        Mode::Deep => false,
-    }
-}
-
-// Whether it is deep power-down.
-pub(crate) fn is_deep(mode: Mode) -> bool
-    ensures { λ r. ⌜ r ≡ isDeep mode ⌝ }
-{
-    match mode {
-        Mode::Standby => false,
-        Mode::Busy(_) => false,
-        Mode::Deep => true,
-    }
 }
 
 // Whether a cycle writes the settings.
@@ -118,9 +97,9 @@ fn as_needed(row: Row, n: usize, pulses: u32) -> bool
 }
 
 // The chip's number, or 0.
-fn ignored(device: Device, asked: Instruction, n: usize, pulses: u32, w: bool) -> u8
+fn chip_number(device: Device, asked: Instruction, n: usize, pulses: u32, w: bool) -> u8
     requires { ⌜ asked .figures ≡ figuresOf (device .part) ⌝ }
-    ensures { λ r. ⌜ r ≡ ignorance device (asked .row) n pulses w (asked .address) ⌝ }
+    ensures { λ r. ⌜ r ≡ chipNumber device (asked .row) n pulses w (asked .address) ⌝ }
 {
     let mode = device.mode;
     let busy = is_busy(mode);
@@ -162,9 +141,9 @@ pub(crate) fn judge(
     response: usize,
 ) -> Verdict
     requires { ⌜ asked .figures ≡ figuresOf (device .part) ⌝ }
-    ensures { λ r. ⌜ r ≡ decided (refusal device array n pulses response) (ignorance device (asked .row) n pulses w (asked .address)) ⌝ }
+    ensures { λ r. ⌜ r ≡ decided (hostNumber device array n pulses response) (chipNumber device (asked .row) n pulses w (asked .address)) ⌝ }
 {
-    let host = refused(device, array, n, pulses, response);
-    let chip = ignored(device, asked, n, pulses, w);
+    let host = host_number(device, array, n, pulses, response);
+    let chip = chip_number(device, asked, n, pulses, w);
     decide(host, chip)
 }

@@ -33,14 +33,16 @@ pub struct Done {
     pub device: Device,
 }
 
-// An answer with nothing driven.
-fn bare(number: u8) -> Answer
-    ensures { λ r. ⌜ r ≡ bare number ⌝ }
-{
-    Answer {
-        number,
-        first: 0,
-        count: 0,
+impl Answer {
+    // An answer with nothing driven.
+    pub fn bare(number: u8) -> Self
+        ensures { λ r. ⌜ r ≡ bare number ⌝ }
+    {
+        Answer {
+            number,
+            first: 0,
+            count: 0,
+        }
     }
 }
 
@@ -105,13 +107,13 @@ pub fn transact(
     );
     match verdict {
         Verdict::Refused(k) => {
-            let answer = bare(k);
+            let answer = Answer::bare(k);
             return Done { answer, device };
         }
         Verdict::Ignored(k) => {
             let start = 0;
             slices::fill_part(response, start, sent.len(), 0xFF);
-            let answer = bare(k);
+            let answer = Answer::bare(k);
             return Done { answer, device };
         }
         Verdict::Executed => {
@@ -135,11 +137,11 @@ pub fn foreseen(
     let verdict = answers::judge(device, asked, array, sent.len(), pulses, w, response);
     match verdict {
         Verdict::Refused(k) => {
-            let answer = bare(k);
+            let answer = Answer::bare(k);
             return Done { answer, device };
         }
         Verdict::Ignored(k) => {
-            let answer = bare(k);
+            let answer = Answer::bare(k);
             return Done { answer, device };
         }
         Verdict::Executed => {

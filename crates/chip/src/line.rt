@@ -3,16 +3,15 @@ ghost use mathlib.Core.Path.{_≡_};
 ghost use Prim.Native.Nat.{_+_, _%_, _<_};
 ghost use lib.ListN.{length, getD};
 ghost use Rattle.slices.specs.Changed.{mapAt};
-ghost use Rattle.chip.specs.Line.{identification, kth, onLine, heard, driven, drives, spanOf, fromOn, Responded};
+ghost use Rattle.chip.specs.Line.{identification, kth, onLine, lineByte, heard, driven, drives, spanOf, fromOn, Responded};
 ghost use Rattle.chip.specs.Table.{onlyIf, instructionIn};
-ghost use Rattle.chip.specs.During.{during};
-use crate::answers::is_busy;
-use crate::answers::is_deep;
 use crate::table::Drive;
 use crate::table::Instruction;
 use crate::table::Row;
 use crate::table::read_instruction;
 use device::Device;
+use device::is_busy;
+use device::is_deep;
 use parts::Figures;
 
 // The three identification bytes, then 00.
@@ -148,25 +147,25 @@ fn array_byte(array: &[u8], i: usize) -> u8
 }
 
 // What the chip does with the line during one byte; `byte` is 0 where nothing is driven.
-pub struct During {
+pub struct LineByte {
     pub driven: bool,
     pub byte: u8,
 }
 
 // A byte is driven.
-fn drives(byte: u8) -> During
-    ensures { λ r. ⌜ r ≡ during (drives byte) ⌝ }
+fn drives(byte: u8) -> LineByte
+    ensures { λ r. ⌜ r ≡ lineByte (drives byte) ⌝ }
 {
-    During { driven: true, byte }
+    LineByte { driven: true, byte }
 }
 
 // Driven byte k, counted from the first.
-fn kth_byte(how: Drive, figures: Figures, status: u8, array: &[u8], at: usize, k: usize) -> During
+fn kth_byte(how: Drive, figures: Figures, status: u8, array: &[u8], at: usize, k: usize) -> LineByte
     requires { ⌜ at + k < 18446744073709551616 ⌝ }
-    ensures { λ r. ⌜ r ≡ during (kth how figures status (now (array .entry)) at k) ⌝ }
+    ensures { λ r. ⌜ r ≡ lineByte (kth how figures status (now (array .entry)) at k) ⌝ }
 {
     match how {
-        Drive::Nothing => During {
+        Drive::Nothing => LineByte {
             driven: false,
             byte: 0,
         },
@@ -178,8 +177,8 @@ fn kth_byte(how: Drive, figures: Figures, status: u8, array: &[u8], at: usize, k
 }
 
 // What is driven during the byte that comes after the bytes before.
-pub fn driven_byte(device: Device, array: &[u8], before: &[u8]) -> During
-    ensures { λ r. ⌜ r ≡ during (driven device (now (array .entry)) (now (before .entry))) ⌝ }
+pub fn driven_byte(device: Device, array: &[u8], before: &[u8]) -> LineByte
+    ensures { λ r. ⌜ r ≡ lineByte (driven device (now (array .entry)) (now (before .entry))) ⌝ }
 {
     let asked = read_instruction(device, before);
     let figures = asked.figures;
@@ -187,7 +186,7 @@ pub fn driven_byte(device: Device, array: &[u8], before: &[u8]) -> During
     let from = row.from;
     let how = row.drive;
     if before.len() < from {
-        return During {
+        return LineByte {
             driven: false,
             byte: 0,
         };

@@ -10,19 +10,13 @@ use borrow.Author.Tests.{ne-eqb}
 use Rattle.device.specs.declared.Mode.{Mode}
 use Rattle.device.specs.declared.Mode.the-variants.{Standby, Busy, Deep}
 use Rattle.device.specs.declared.Device.{Device}
-use Rattle.device.specs.Device.{sound, zeroRecord, busyBit, waited, poweredUp, soundAnswer, waitCall, powerUpCall}
+use Rattle.device.specs.Device.{sound, zeroRecord, waited, poweredUp, soundAnswer, waitCall, powerUpCall}
 use Rattle.device.specs.Packing.{packedLength, packOf, packAnswer, Packed, formed, fieldsOf, unpackAnswer, unpackOf}
 
 -- a bit of the status byte is at most its weight
 pub weight : (b : Bool) (n : ℕ) → cond b n 0 ≤ n
 weight true n = omega arith
 weight false n = omega arith
-
--- so is bit 0
-pub busy-weight : (m : Mode) → busyBit m ≤ 1
-busy-weight Standby = omega arith
-busy-weight (Busy left) = omega arith
-busy-weight Deep = omega arith
 
 -- how long a packing is
 pub length-pack : (d : Device) → length (packOf d) ≡ packedLength

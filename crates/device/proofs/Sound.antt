@@ -1,7 +1,7 @@
 -- What a sound record has, and which changes keep a record sound.
 -- Assumes nothing.
-use mathlib.Core.Path.{_≡_, refl}
-use mathlib.Core.Bool.{Bool, true, false, cond, _&&_}
+use mathlib.Core.Path.{_≡_, refl, sym}
+use mathlib.Core.Bool.{Bool, true, false, cond, _&&_, false≢true}
 use Prim.Native.Nat.{ℕ, _≤_, _<_, _-_}
 use native.Mathlib.Omega.{arith}
 use lib.Dec.{leb, ltb}
@@ -11,7 +11,7 @@ use Rattle.parts.specs.Parts.{knownPart, figuresOf}
 use Rattle.device.specs.declared.Mode.{Mode}
 use Rattle.device.specs.declared.Mode.the-variants.{Standby, Busy, Deep}
 use Rattle.device.specs.declared.Device.{Device}
-use Rattle.device.specs.Device.{latchAt, moded, latched, settled, zeroRecord, delivered, running, waitedIn, waited, poweredUp, bothSame, rangedOf, modeSound, sound, busyBit}
+use Rattle.device.specs.Device.{latchAt, moded, latched, settled, zeroRecord, delivered, running, waitedIn, waited, poweredUp, bothSame, rangedOf, modeSound, sound, isBusy}
 
 -- two true tests
 pub and-true : (s t : Bool) → s ≡ true → t ≡ true → s && t ≡ true
@@ -69,15 +69,15 @@ pub deep-sound : (d : Device) (l : Bool) → sound d ≡ true → figuresOf (d .
 deep-sound d l h sleeps = moded-sound d l Deep h sleeps
 
 -- another latch, outside a cycle
-pub latched-sound : (d : Device) (on : Bool) → sound d ≡ true → busyBit (d .mode) ≡ 0 → sound (latched d on) ≡ true
+pub latched-sound : (d : Device) (on : Bool) → sound d ≡ true → isBusy (d .mode) ≡ false → sound (latched d on) ≡ true
 unfolding latched
 latched-sound d on h idle =
     let s : Sound d = sound-has d h in
     sound-by (latched d on) (record { known = s .known; bp-fits = s .bp-fits; program-fits = s .program-fits; sector-fits = s .sector-fits; bulk-fits = s .bulk-fits; status-fits = s .status-fits; mode-fits = go (d .mode) idle (s .mode-fits) })
   where
-    go : (m : Mode) → busyBit m ≡ 0 → modeSound m (d .latch) (figuresOf (d .part) .sleeps) ≡ true → modeSound m on (figuresOf (d .part) .sleeps) ≡ true
+    go : (m : Mode) → isBusy m ≡ false → modeSound m (d .latch) (figuresOf (d .part) .sleeps) ≡ true → modeSound m on (figuresOf (d .part) .sleeps) ≡ true
     go Standby e f = refl
-    go (Busy left) e f = let z : _≡_ {A = ℕ} 1 0 = e in absurd (omega arith)
+    go (Busy left) e f = absurd (false≢true (sym e))
     go Deep e f = f
 
 -- other settings, with a BP that the part has

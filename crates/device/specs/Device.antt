@@ -76,15 +76,21 @@ sound d =
     && rangedOf (d .«write_status»)
     && modeSound (d .mode) (d .latch) (figuresOf (d .part) .sleeps)
 
--- bit 0 of the status byte
-abbrev pub busyBit : Mode → ℕ
-busyBit Standby = 0
-busyBit (Busy left) = 1
-busyBit Deep = 0
+-- whether a cycle runs
+abbrev pub isBusy : Mode → Bool
+isBusy Standby = false
+isBusy (Busy left) = true
+isBusy Deep = false
+
+-- whether it is deep power-down
+abbrev pub isDeep : Mode → Bool
+isDeep Standby = false
+isDeep (Busy left) = false
+isDeep Deep = true
 
 -- the status byte: bit 7 SRWD, bits 4 to 2 BP (its three lowest bits, if it had more), bit 1 the latch, bit 0 set while busy
 unfoldable pub statusByte : Device → ℕ
-statusByte d = cond (d .srwd) 128 0 + 4 * (d .bp % 8) + cond (d .latch) 2 0 + busyBit (d .mode)
+statusByte d = cond (d .srwd) 128 0 + 4 * (d .bp % 8) + cond (d .latch) 2 0 + cond (isBusy (d .mode)) 1 0
 
 -- 6 where the record is not sound, else 0
 unfoldable pub soundAnswer : Device → ℕ

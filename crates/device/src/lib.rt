@@ -1,6 +1,6 @@
 // The device record: its changes, when it is sound, and its status byte.
 ghost use mathlib.Core.Path.{_≡_};
-ghost use Rattle.device.specs.Device.{latchAt, moded, latched, settled, running, waited, poweredUp, zeroRecord, delivered, bothSame, rangedOf, modeSound, sound, busyBit, statusByte, waitCall, powerUpCall};
+ghost use Rattle.device.specs.Device.{latchAt, moded, latched, settled, running, waited, poweredUp, zeroRecord, delivered, bothSame, rangedOf, modeSound, sound, isBusy, isDeep, statusByte, waitCall, powerUpCall};
 
 // What a cycle does, and how long it takes.
 pub mod cycle;
@@ -66,14 +66,25 @@ fn mode_sound(mode: Mode, latch: bool, sleeps: bool) -> bool
     }
 }
 
-// Bit 0 of the status byte.
-fn busy_bit(mode: Mode) -> u8
-    ensures { λ r. ⌜ r ≡ busyBit mode ⌝ }
+// Whether a cycle runs.
+pub fn is_busy(mode: Mode) -> bool
+    ensures { λ r. ⌜ r ≡ isBusy mode ⌝ }
 {
     match mode {
-        Mode::Standby => 0,
-        Mode::Busy(_) => 1,
-        Mode::Deep => 0,
+        Mode::Standby => false,
+        Mode::Busy(_) => true,
+        Mode::Deep => false,
+    }
+}
+
+// Whether it is deep power-down.
+pub fn is_deep(mode: Mode) -> bool
+    ensures { λ r. ⌜ r ≡ isDeep mode ⌝ }
+{
+    match mode {
+        Mode::Standby => false,
+        Mode::Busy(_) => false,
+        Mode::Deep => true,
     }
 }
 
@@ -203,7 +214,7 @@ impl Device {
         let srwd = slices::when(self.srwd, 128, 0);
         let latch = slices::when(self.latch, 2, 0);
         let mode = self.mode;
-        let busy = busy_bit(mode);
+        let busy = slices::when(is_busy(mode), 1, 0);
         srwd + 4 * (self.bp % 8) + latch + busy
     }
 

@@ -11,7 +11,7 @@ use lib.ListN.{getD, drop}
 use lib.Bits.{bitAnd}
 use Rattle.slices.proofs.Choices.{cond-ind}
 use Rattle.slices.proofs.Ands.{and-swap}
-use Rattle.memory.specs.Memory.{blank, latched, reached, landed, programmed, erased}
+use Rattle.memory.specs.Memory.{blank, filled, reached, landed, programmed, erased}
 use Rattle.memory.proofs.Laws.{programmed-byte}
 use Rattle.parts.specs.declared.Figures.{Figures}
 use Rattle.parts.specs.Parts.{figuresOf}
@@ -44,7 +44,7 @@ acts : (f : Figures) (k : ℕ) → f .«sector_bytes» ≡ 256 * k → (sent : L
 unfolding rowOf changed cycleOf touched programmed erased
 acts f k e sent i =
     codes-ind (λ (c : ℕ). Acts f c sent i)
-    (andsIn refl (eqb (i / 256) (addressOf f sent / 256)) (getD (latched blank (addressOf f sent) (drop 4 sent)) (i % 256) 0)
+    (andsIn refl (eqb (i / 256) (addressOf f sent / 256)) (getD (filled blank (addressOf f sent) (drop 4 sent)) (i % 256) 0)
     (λ p. eq-eqb (addressOf f sent / f .«sector_bytes») (i / f .«sector_bytes») (sym (in-sector k (f .«sector_bytes») i (addressOf f sent) e (eqb-true (i / 256) (addressOf f sent / 256) p))))
     (λ x. refl))
     (fillsIn refl (eqb (i / f .«sector_bytes») (addressOf f sent / f .«sector_bytes»))

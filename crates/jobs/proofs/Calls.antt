@@ -9,7 +9,7 @@ use Rattle.device.specs.declared.Device.{Device}
 use Rattle.device.specs.declared.Checked.{Checked}
 use Rattle.device.specs.Device.{waitCall}
 use Rattle.chip.specs.declared.Answer.{Answer}
-use Rattle.chip.specs.Answers.{refusal}
+use Rattle.chip.specs.Answers.{hostNumber}
 use Rattle.chip.specs.Outcome.{Outcome, bare, outcomeOf, Transacted}
 use Rattle.chip.specs.Events.{Chip, after}
 use Rattle.chip.proofs.Events.{no-refusal, after-good, any-response}
@@ -18,14 +18,14 @@ use Rattle.jobs.specs.Call.{jobOf, jobbed, Jobbed, alone}
 
 module _ (d : Device) (xs sent : List ℕ) (p : ℕ) (w : Bool) (r : List ℕ) where
   -- a host-side number
-  pub job-refused : (host : ℕ) → host ≡ refusal d (length xs) (length sent) p (length r) → (host ≡ 0 → ⊥) → Jobbed d xs sent p w r (bare host) d xs r
+  pub job-refused : (host : ℕ) → host ≡ hostNumber d (length xs) (length sent) p (length r) → (host ≡ 0 → ⊥) → Jobbed d xs sent p w r (bare host) d xs r
   unfolding jobbed outcomeOf
   job-refused zero e h = absurd (h refl)
   job-refused (suc k) e h = rw (← e) (record { answer = refl; device = refl; memory = refl; line = refl })
 
   -- none: the four calls, one after the other
   pub job-passes : {on : Device} {ys : List ℕ} {a : Answer} {going : Device} {zs r′ : List ℕ} {rest : Checked} {next : Device} {end : List ℕ} (t : ℕ)
-      → refusal d (length xs) (length sent) p (length r) ≡ 0 → t ≡ longestCycle d
+      → hostNumber d (length xs) (length sent) p (length r) ≡ 0 → t ≡ longestCycle d
       → on ≡ alone d xs 0x06 w .device → ys ≡ alone d xs 0x06 w .array
       → Transacted on ys sent p w r a going zs r′
       → rest ≡ waitCall going t

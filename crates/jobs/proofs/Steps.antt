@@ -19,7 +19,7 @@ use Rattle.device.specs.declared.Device.{Device}
 use Rattle.device.specs.Device.{sound, rangedOf, moded, latched, running, waited, soundAnswer, waitCall}
 use Rattle.device.proofs.Sound.{sound-has, standby-sound, running-sound}
 use Rattle.chip.specs.Table.{rowOf, addressOf, rowIn}
-use Rattle.chip.specs.Answers.{refusal, ignorance, asNeeded, inProtected, decided, verdictOf}
+use Rattle.chip.specs.Answers.{hostNumber, chipNumber, asNeeded, inProtected, decided, verdictOf}
 use Rattle.chip.specs.Change.{changed, asItWas, turned}
 use Rattle.chip.specs.Outcome.{Outcome, outcomeOf, transacted}
 use Rattle.chip.specs.Events.{Chip, sends, sent, after, told, run}
@@ -72,8 +72,8 @@ module _ (d : Device) (xs sent r : List ℕ) (k : ℕ) where
       go false e = rw e
 
 -- then the chip's number decides
-pub called : (d : Device) (xs sent : List ℕ) (p : ℕ) (w : Bool) (r : List ℕ) → refusal d (length xs) (length sent) p (length r) ≡ 0
-    → transacted d xs sent p w r ≡ outcomeOf (decided 0 (ignorance d (rowIn d sent) (length sent) p w (addressOf (figuresOf (d .part)) sent))) d xs sent r
+pub called : (d : Device) (xs sent : List ℕ) (p : ℕ) (w : Bool) (r : List ℕ) → hostNumber d (length xs) (length sent) p (length r) ≡ 0
+    → transacted d xs sent p w r ≡ outcomeOf (decided 0 (chipNumber d (rowIn d sent) (length sent) p w (addressOf (figuresOf (d .part)) sent))) d xs sent r
 unfolding transacted verdictOf
 called d xs sent p w r h = rw h
 
@@ -101,16 +101,16 @@ turned-cases d s P h b =
 
 module _ (d : Device) (s : sound d ≡ true) (xs : List ℕ) (z : length xs ≡ figuresOf (d .part) .bytes) (l w : Bool) where
   -- one byte alone, without further pulses, is not refused
-  passes : refusal (resting d l) (length xs) 1 0 1 ≡ 0
+  passes : hostNumber (resting d l) (length xs) 1 0 1 ≡ 0
   unfolding moded
   passes = no-refusal (resting d l) (length xs) 1 0 1 (rest-sound d l s) z (omega arith) (omega arith) (omega arith)
 
   wren-goes : sent (chip (resting d l) xs) (0x06 ∷ []) 0 w ≡ outcomeOf (decided 0 0) (resting d l) xs (0x06 ∷ []) (0 ∷ [])
-  unfolding sent ignorance rowOf asNeeded moded
+  unfolding sent chipNumber rowOf asNeeded moded
   wren-goes = called (resting d l) xs (0x06 ∷ []) 0 w (0 ∷ []) passes
 
   wrdi-goes : sent (chip (resting d l) xs) (0x04 ∷ []) 0 w ≡ outcomeOf (decided 0 0) (resting d l) xs (0x04 ∷ []) (0 ∷ [])
-  unfolding sent ignorance rowOf asNeeded moded
+  unfolding sent chipNumber rowOf asNeeded moded
   wrdi-goes = called (resting d l) xs (0x04 ∷ []) 0 w (0 ∷ []) passes
 
   pub wren-is : after (sends (0x06 ∷ []) 0 w) (chip (resting d l) xs) ≡ chip (resting d true) xs
@@ -149,7 +149,7 @@ busy-waits d s t r h =
 
 -- the number that a job's program or erase gets, which the array does not decide
 abbrev pub number : Device → Job → ℕ
-number d j = ignorance (resting d true) (rowIn d (j .sent)) (length (j .sent)) (j .pulses) (j .w₂) (addressOf (figuresOf (d .part)) (j .sent))
+number d j = chipNumber (resting d true) (rowIn d (j .sent)) (length (j .sent)) (j .pulses) (j .w₂) (addressOf (figuresOf (d .part)) (j .sent))
 
 -- what a job does to each byte: what its program or erase does where the answer is 0, nothing where not
 abbrev pub effect : Device → Job → ℕ → ℕ → ℕ
@@ -230,10 +230,10 @@ one-of-three true true = inr (inr refl)
 one-of-three true false = inl refl
 
 allowed : (d : Device) (n p : ℕ) (w : Bool) (at c : ℕ) → eqb n 0 ≡ false → eqb c 0x02 || (eqb c 0xD8 || eqb c 0xC7) ≡ true
-    → ExecutedOr15Or17 (ignorance (resting d true) (rowOf (figuresOf (d .part)) c) n p w at)
-unfolding ignorance rowOf moded
+    → ExecutedOr15Or17 (chipNumber (resting d true) (rowOf (figuresOf (d .part)) c) n p w at)
+unfolding chipNumber rowOf moded
 allowed d n p w at c e =
-    codes-ind (λ (c : ℕ). ExecutedOr15Or17 (ignorance (resting d true) (rowOf (figuresOf (d .part)) c) n p w at))
+    codes-ind (λ (c : ℕ). ExecutedOr15Or17 (chipNumber (resting d true) (rowOf (figuresOf (d .part)) c) n p w at))
     (rw e (one-of-three (asNeeded (rowOf (figuresOf (d .part)) 0x02) n p) (inProtected (figuresOf (d .part)) (d .bp) at)))
     (rw e (one-of-three (asNeeded (rowOf (figuresOf (d .part)) 0xD8) n p) (inProtected (figuresOf (d .part)) (d .bp) at)))
     (rw e (one-of-three (asNeeded (rowOf (figuresOf (d .part)) 0xC7) n p) (ltb 0 (d .bp))))

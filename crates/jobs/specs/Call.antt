@@ -7,7 +7,7 @@ use Rattle.slices.specs.Chosen.{onZero}
 use Rattle.device.specs.declared.Device.{Device}
 use Rattle.chip.specs.declared.answers.Verdict.the-variants.{Refused}
 use Rattle.chip.specs.declared.Answer.{Answer}
-use Rattle.chip.specs.Answers.{refusal}
+use Rattle.chip.specs.Answers.{hostNumber}
 use Rattle.chip.specs.Outcome.{Outcome, outcomeOf, Meets, transacted}
 use Rattle.chip.specs.Events.{Chip, sends, after, run}
 use Rattle.jobs.specs.Jobs.{Job, enable, rest, disable}
@@ -37,7 +37,7 @@ fourCalls j response c =
 -- a job: record, array, bytes of the program or erase, further pulses, level of W, response; a host-side number changes nothing
 unfoldable pub jobbed : Device → List ℕ → List ℕ → ℕ → Bool → List ℕ → Outcome
 jobbed d array sent pulses w response =
-    let host = refusal d (length array) (length sent) pulses (length response) in
+    let host = hostNumber d (length array) (length sent) pulses (length response) in
     onZero host (fourCalls (jobOf sent pulses w) response (record { device = d; array = array })) (outcomeOf (Refused host) d array sent response)
 
 -- what a job call promises

@@ -10,11 +10,11 @@ use Rattle.slices.specs.Changed.{mapAt}
 use Rattle.memory.specs.Memory.{blank, reached, landed, programmed, erased}
 use Rattle.memory.specs.Memory as memory
 use Rattle.parts.specs.Parts.{figuresOf}
-use Rattle.parts.specs.Protected.{protectedOf, columnOf, uncelled}
+use Rattle.parts.specs.Protected.{protectedOf, columnOf, byRule}
 use Rattle.device.specs.declared.Mode.the-variants.{Standby}
 use Rattle.device.specs.Device.{sound, latchAt, moded, latched, running, waited, soundAnswer, waitCall}
 use Rattle.chip.specs.Table.{rowOf, addressOf}
-use Rattle.chip.specs.Answers.{refusal, ignorance, asNeeded, inProtected, decided, verdictOf}
+use Rattle.chip.specs.Answers.{hostNumber, chipNumber, asNeeded, inProtected, decided, verdictOf}
 use Rattle.device.specs.Cycles.{touched}
 use Rattle.chip.specs.Change.{cycleOf, changed, turned}
 use Rattle.chip.specs.Outcome.{outcomeOf, transacted}
@@ -105,6 +105,6 @@ pub record Shown : Type 0 where
 
 -- computed by the checker
 pub shown : Shown
-unfolding sent transacted outcomeOf verdictOf decided refusal ignorance rowOf addressOf asNeeded inProtected protectedOf columnOf uncelled cycleOf touched changed turned running moded latched waited waitCall soundAnswer sound latchAt figuresOf mapAt programmed erased blank memory.latched reached landed
+unfolding sent transacted outcomeOf verdictOf decided hostNumber chipNumber rowOf addressOf asNeeded inProtected protectedOf columnOf byRule cycleOf touched changed turned running moded latched waited waitCall soundAnswer sound latchAt figuresOf mapAt programmed erased blank memory.filled reached landed
 shown =
     record { erase-last = refl; erase-first = refl; answers = refl; anded = refl; protects = refl; erases = refl; keeps = refl; anew = refl; later = refl; formula = refl; formula-first = refl }

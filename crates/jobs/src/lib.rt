@@ -44,13 +44,9 @@ pub fn run_job(
 ) -> Done
     ensures { λ o. ⌜ Jobbed device (now (array .entry)) (now (sent .entry)) pulses w (now (response .entry)) (o .answer) (o .device) (now (array .exit)) (now (response .exit)) ⌝ }
 {
-    let host = chip::answers::refused(device, array.len(), sent.len(), pulses, response.len());
+    let host = chip::answers::host_number(device, array.len(), sent.len(), pulses, response.len());
     if host != 0 {
-        let answer = Answer {
-            number: host,
-            first: 0,
-            count: 0,
-        };
+        let answer = Answer::bare(host);
         return Done { answer, device };
     }
     let longest = longest_cycle(device);

@@ -9,8 +9,8 @@ use device::packing::LENGTH;
 use device::packing::pack;
 use device::packing::unpack;
 
-// The three numbers of an answer in one.
-fn in_one(answer: Answer) -> u64
+// The three numbers of an answer in 64 bits.
+fn packed_answer(answer: Answer) -> u64
     ensures { λ r. ⌜ r ≡ packedAnswer answer ⌝ }
 {
     (answer.number as u64) + 256 * (answer.first as u64) + 65536 * (answer.count as u64)
@@ -20,11 +20,7 @@ fn in_one(answer: Answer) -> u64
 fn bare(number: u8) -> u64
     ensures { λ r. ⌜ r ≡ packedAnswer (Outcome.bare number) ⌝ }
 {
-    in_one(Answer {
-        number,
-        first: 0,
-        count: 0,
-    })
+    packed_answer(Answer::bare(number))
 }
 
 // Delivers a part: the packed record is written and the array becomes FF.
@@ -71,9 +67,9 @@ pub extern "C" fn m25p_transact(
     let answer = done.answer;
     if answer.number == 0 {
         pack(done.device, packed);
-        return in_one(answer);
+        return packed_answer(answer);
     }
-    in_one(answer)
+    packed_answer(answer)
 }
 
 // Waits `ticks`.

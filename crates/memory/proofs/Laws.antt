@@ -17,18 +17,18 @@ use Rattle.slices.proofs.Maps.{map-agree, getD-any}
 use Rattle.slices.proofs.Windows.{window-block, window-clamp, window-more}
 use Rattle.slices.proofs.Parts.{getD-lent}
 use Rattle.slices.proofs.Ands.{and-ff}
-use Rattle.memory.specs.Memory.{blank, latched, reached, landed, anded, programmed, erased, rolled}
+use Rattle.memory.specs.Memory.{blank, filled, reached, landed, anded, programmed, erased, rolled}
 
 -- one data byte more
-pub latched-next : (latch : List ℕ) (at i : ℕ) (s : List ℕ) → i < length s
-    → latched latch (at + i) (drop i s) ≡ latched (set latch ((at + i) % 256) (getD s i 0)) (at + (i + 1)) (drop (i + 1) s)
-unfolding latched
-latched-next latch at i s h = rw (← add-assoc at i 1, drop-cons s i 0 h, add-one i)
+pub filled-next : (latch : List ℕ) (at i : ℕ) (s : List ℕ) → i < length s
+    → filled latch (at + i) (drop i s) ≡ filled (set latch ((at + i) % 256) (getD s i 0)) (at + (i + 1)) (drop (i + 1) s)
+unfolding filled
+filled-next latch at i s h = rw (← add-assoc at i 1, drop-cons s i 0 h, add-one i)
 
 -- no data byte left
-pub latched-end : (latch : List ℕ) (at i : ℕ) (s : List ℕ) → length s ≤ i → latch ≡ latched latch at (drop i s)
-unfolding latched
-latched-end latch at i s h = rw (drop-of-length-le s h)
+pub filled-end : (latch : List ℕ) (at i : ℕ) (s : List ℕ) → length s ≤ i → latch ≡ filled latch at (drop i s)
+unfolding filled
+filled-end latch at i s h = rw (drop-of-length-le s h)
 
 -- what there is of the page, lent and anded
 pub page-is : (at : ℕ) (slots xs : List ℕ) (from n : ℕ) → from ≡ min (at / 256 * 256) (length xs) → n ≡ min 256 (length xs - from)
@@ -61,16 +61,14 @@ unfolding erased
 sector-none at xs = map-agree _ _ xs (λ i lt. rw (div-zero i, div-zero at))
 
 -- with no array nothing is read
-pub rolled-none : (a : List ℕ) (at : ℕ) (xs : List ℕ) → length a ≡ 0 → mapAt (put 255) xs ≡ mapAt (rolled a at) xs
-unfolding rolled
+pub rolled-none : (a : List ℕ) (at : ℕ) (xs : List ℕ) → length a ≡ 0 → mapAt (put 255) xs ≡ mapAt (λ i x. rolled a at i) xs
 rolled-none a at xs e = map-agree _ _ xs (λ i lt. let k : length a ≤ (at + i) % length a = omega arith in sym (List·getD-eq-default a _ k))
 
 -- one straight run of a read
 pub run-is : (a out out₀ : List ℕ) (address at done run : ℕ) → at ≡ (address + done) % length a → at + run ≤ length a
-    → out ≡ mapAt (window 0 done (rolled a address)) out₀
-    → mapAt (window done (done + run) (λ i x. getD (take (at + run - at) (drop at a)) (i - done) x)) out ≡ mapAt (window 0 (done + run) (rolled a address)) out₀
-unfolding rolled
-run-is a out out₀ address at done run p h q = window-more done (done + run) (rolled a address) _ out₀ q (omega arith) byte
+    → out ≡ mapAt (window 0 done (λ i x. rolled a address i)) out₀
+    → mapAt (window done (done + run) (λ i x. getD (take (at + run - at) (drop at a)) (i - done) x)) out ≡ mapAt (window 0 (done + run) (λ i x. rolled a address i)) out₀
+run-is a out out₀ address at done run p h q = window-more done (done + run) (λ i x. rolled a address i) _ out₀ q (omega arith) byte
   where
     byte : (i x : ℕ) → done ≤ i → i < done + run → getD (take (at + run - at) (drop at a)) (i - done) x ≡ getD a ((address + i) % length a) 255
     byte i x k l =
@@ -93,17 +91,17 @@ set-at l i j v d h true e = let q : i ≡ j = eqb-true i j e in rw (← q) (getD
 set-at l i j v d h false e = getD-set-other l i j v d (λ q. eqb-false i j e (sym q))
 
 -- a slot of the latch holds the last byte that went to it
-pub latched-slot : (l : List ℕ) (at : ℕ) (s : List ℕ) (j d : ℕ) → length l ≡ 256 → getD (latched l at s) j d ≡ landed at s j (getD l j d)
-unfolding latched landed
-latched-slot l at [] j d h = refl
-latched-slot l at (b ∷ s) j d h =
+pub filled-slot : (l : List ℕ) (at : ℕ) (s : List ℕ) (j d : ℕ) → length l ≡ 256 → getD (filled l at s) j d ≡ landed at s j (getD l j d)
+unfolding filled landed
+filled-slot l at [] j d h = refl
+filled-slot l at (b ∷ s) j d h =
     let k : at % 256 < length l = omega arith in
-    latched-slot (set l (at % 256) b) (at + 1) s j d (length-set l (at % 256) b ∙ h)
+    filled-slot (set l (at % 256) b) (at + 1) s j d (length-set l (at % 256) b ∙ h)
     ∙ ap (landed (at + 1) s j) (set-at l (at % 256) j b d k (eqb (at % 256) j) refl)
 
-pub blank-slot : (at : ℕ) (s : List ℕ) (j : ℕ) → j < 256 → getD (latched blank at s) j 0 ≡ landed at s j 255
+pub blank-slot : (at : ℕ) (s : List ℕ) (j : ℕ) → j < 256 → getD (filled blank at s) j 0 ≡ landed at s j 255
 unfolding blank
-blank-slot at s j h = latched-slot blank at s j 0 (length-replicate {A = ℕ} 256 255) ∙ ap (landed at s j) (getD-replicate 256 j 255 0 h)
+blank-slot at s j h = filled-slot blank at s j 0 (length-replicate {A = ℕ} 256 255) ∙ ap (landed at s j) (getD-replicate 256 j 255 0 h)
 
 -- a slot that no data byte reached holds what it held
 pub not-reached : (at : ℕ) (s : List ℕ) (j held : ℕ) → reached at s j ≡ false → landed at s j held ≡ held
@@ -117,7 +115,7 @@ not-reached at (b ∷ s) j held h = go (eqb (at % 256) j) h (not-reached (at + 1
 
 -- a byte after its page was programmed: itself and the byte that reached it, itself where none did
 pub programmed-byte : (at : ℕ) (s : List ℕ) (i x : ℕ) → x < 256
-    → programmed at (latched blank at s) i x ≡ cond (eqb (i / 256) (at / 256) && reached at s (i % 256)) (bitAnd x (landed at s (i % 256) 255)) x
+    → programmed at (filled blank at s) i x ≡ cond (eqb (i / 256) (at / 256) && reached at s (i % 256)) (bitAnd x (landed at s (i % 256) 255)) x
 unfolding programmed
 programmed-byte at s i x lt = rw (blank-slot at s (i % 256) (omega arith)) (go (eqb (i / 256) (at / 256)) (reached at s (i % 256)) (not-reached at s (i % 256) 255))
   where

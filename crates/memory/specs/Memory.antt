@@ -1,8 +1,9 @@
 -- The memory of a part, byte by byte: from document 01, 'Program', SE, BE and READ.
 --     blank       a latch before any data: 256 bytes FF
---     latched     a latch after data that starts at an address: data byte k goes to slot (address + k) modulo 256, one after the other
+--     filled     a latch after data that starts at an address: data byte k goes to slot (address + k) modulo 256, one after the other
 --     reached     some data byte goes to a slot
 --     landed      a slot after the data: the last byte that went to it, or what it held
+--     anded       byte x at place i and its slot, bit by bit
 --     programmed  byte x at place i after the page of an address was programmed: itself and its slot, bit by bit; other pages stay
 --     erased      byte x at place i after the sector of an address became FF
 --     rolled      what byte i of a read is, from an address on, over the last byte to byte 0; FF where there is no array
@@ -16,9 +17,9 @@ use lib.Dec.{eqb}
 unfoldable pub blank : List ℕ
 blank = replicate 256 255
 
-unfoldable pub latched : List ℕ → ℕ → List ℕ → List ℕ
-latched latch at [] = latch
-latched latch at (b ∷ bytes) = latched (set latch (at % 256) b) (at + 1) bytes
+unfoldable pub filled : List ℕ → ℕ → List ℕ → List ℕ
+filled latch at [] = latch
+filled latch at (b ∷ bytes) = filled (set latch (at % 256) b) (at + 1) bytes
 
 unfoldable pub reached : ℕ → List ℕ → ℕ → Bool
 reached at [] slot = false
@@ -32,10 +33,10 @@ abbrev pub anded : List ℕ → ℕ → ℕ → ℕ
 anded slots i x = bitAnd x (getD slots (i % 256) 0)
 
 unfoldable pub programmed : ℕ → List ℕ → ℕ → ℕ → ℕ
-programmed at slots i x = cond (eqb (i / 256) (at / 256)) (bitAnd x (getD slots (i % 256) 0)) x
+programmed at slots i x = cond (eqb (i / 256) (at / 256)) (anded slots i x) x
 
 unfoldable pub erased : ℕ → ℕ → ℕ → ℕ → ℕ
 erased size at i x = cond (eqb (i / size) (at / size)) 255 x
 
-unfoldable pub rolled : List ℕ → ℕ → ℕ → ℕ → ℕ
-rolled array at i x = getD array ((at + i) % length array) 255
+abbrev pub rolled : List ℕ → ℕ → ℕ → ℕ
+rolled array at i = getD array ((at + i) % length array) 255

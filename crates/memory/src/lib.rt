@@ -3,11 +3,11 @@ ghost use mathlib.Core.Path.{_≡_};
 ghost use Prim.Native.Nat.{_≤_};
 ghost use lib.ListN.{length};
 ghost use Rattle.slices.specs.Changed.{mapAt, put};
-ghost use Rattle.memory.specs.Memory.{blank, latched, anded, programmed, erased, rolled};
+ghost use Rattle.memory.specs.Memory.{blank, filled, anded, programmed, erased, rolled};
 
 // A latch after the data: byte k in slot (address + k) mod 256, a later byte in place of an earlier.
 fn fill_slots(latch: [u8; 256], bytes: &[u8], address: u32) -> [u8; 256]
-    ensures { λ r. ⌜ r ≡ latched latch address (now (bytes .entry)) ⌝ }
+    ensures { λ r. ⌜ r ≡ filled latch address (now (bytes .entry)) ⌝ }
 {
     let mut slots = latch;
     let first = address as usize;
@@ -21,7 +21,7 @@ fn fill_slots(latch: [u8; 256], bytes: &[u8], address: u32) -> [u8; 256]
 
 // The page latch, all FF at first, after the data.
 pub fn page_latch(bytes: &[u8], address: u32) -> [u8; 256]
-    ensures { λ r. ⌜ r ≡ latched blank address (now (bytes .entry)) ⌝ }
+    ensures { λ r. ⌜ r ≡ filled blank address (now (bytes .entry)) ⌝ }
 {
     fill_slots([0xFF; 256], bytes, address)
 }
@@ -69,7 +69,7 @@ pub fn erase_sector(array: &mut [u8], size: usize, address: usize)
 
 // `out` becomes the bytes from an address on, in straight runs: from the last byte on to byte 0.
 pub fn read_rolling(array: &[u8], address: usize, out: &mut [u8])
-    ensures { λ _. ⌜ now (out .exit) ≡ mapAt (rolled (now (array .entry)) address) (now (out .entry)) ⌝ }
+    ensures { λ _. ⌜ now (out .exit) ≡ mapAt (λ i x. rolled (now (array .entry)) address i) (now (out .entry)) ⌝ }
 {
     if array.len() == 0 {
         slices::fill(out, 0xFF);

@@ -9,7 +9,7 @@ use lib.Dec.{eqb, leb, lit<, lit≤}
 use lib.ListN.{getD}
 use borrow.Author.Tests.{eqb-true, ne-eqb, lt-leb}
 use Rattle.parts.specs.Parts.{figuresOf, bench, m25p10a, m25p40, m25p32, m25p128}
-use Rattle.parts.specs.Protected.{protectedOf, columnOf, uncelled, column4, column8, column64}
+use Rattle.parts.specs.Protected.{protectedOf, columnOf, byRule, column4, column8, column64}
 use Rattle.parts.specs.declared.Figures.{Figures}
 
 -- a promise of the form `r ≡ definition` admits one outcome
@@ -50,16 +50,16 @@ sane p =
     p
 
 -- the table's cells are what the formula gives
-in4 : (bp : ℕ) → getD column4 bp (uncelled 4 bp) ≡ uncelled 4 bp
-unfolding uncelled
+in4 : (bp : ℕ) → getD column4 bp (byRule 4 bp) ≡ byRule 4 bp
+unfolding byRule
 in4 zero = refl
 in4 (suc zero) = refl
 in4 (suc (suc zero)) = refl
 in4 (suc (suc (suc zero))) = refl
 in4 (suc (suc (suc (suc bp)))) = refl
 
-in8 : (bp : ℕ) → getD column8 bp (uncelled 8 bp) ≡ uncelled 8 bp
-unfolding uncelled
+in8 : (bp : ℕ) → getD column8 bp (byRule 8 bp) ≡ byRule 8 bp
+unfolding byRule
 in8 zero = refl
 in8 (suc zero) = refl
 in8 (suc (suc zero)) = refl
@@ -70,8 +70,8 @@ in8 (suc (suc (suc (suc (suc (suc zero)))))) = refl
 in8 (suc (suc (suc (suc (suc (suc (suc zero))))))) = refl
 in8 (suc (suc (suc (suc (suc (suc (suc (suc bp)))))))) = refl
 
-in64 : (bp : ℕ) → getD column64 bp (uncelled 64 bp) ≡ uncelled 64 bp
-unfolding uncelled
+in64 : (bp : ℕ) → getD column64 bp (byRule 64 bp) ≡ byRule 64 bp
+unfolding byRule
 in64 zero = refl
 in64 (suc zero) = refl
 in64 (suc (suc zero)) = refl
@@ -82,12 +82,12 @@ in64 (suc (suc (suc (suc (suc (suc zero)))))) = refl
 in64 (suc (suc (suc (suc (suc (suc (suc zero))))))) = refl
 in64 (suc (suc (suc (suc (suc (suc (suc (suc bp)))))))) = refl
 
-in-column : (n bp k : ℕ) (l : List ℕ) → ((m : ℕ) → getD l m (uncelled k m) ≡ uncelled k m) → (b : Bool) → eqb n k ≡ b → (rest : List ℕ) → getD rest bp (uncelled n bp) ≡ uncelled n bp → getD (cond b l rest) bp (uncelled n bp) ≡ uncelled n bp
-in-column n bp k l h true e rest p = subst (λ (m : ℕ). getD l bp (uncelled m bp) ≡ uncelled m bp) (sym (eqb-true n k e)) (h bp)
+in-column : (n bp k : ℕ) (l : List ℕ) → ((m : ℕ) → getD l m (byRule k m) ≡ byRule k m) → (b : Bool) → eqb n k ≡ b → (rest : List ℕ) → getD rest bp (byRule n bp) ≡ byRule n bp → getD (cond b l rest) bp (byRule n bp) ≡ byRule n bp
+in-column n bp k l h true e rest p = subst (λ (m : ℕ). getD l bp (byRule m bp) ≡ byRule m bp) (sym (eqb-true n k e)) (h bp)
 in-column n bp k l h false e rest p = p
 
 -- the whole table is one formula
-pub table-is : (n bp : ℕ) → protectedOf n bp ≡ uncelled n bp
+pub table-is : (n bp : ℕ) → protectedOf n bp ≡ byRule n bp
 unfolding protectedOf columnOf
 table-is n bp =
     in-column n bp 4 column4 in4 (eqb n 4) refl _
@@ -95,12 +95,12 @@ table-is n bp =
 
 -- a number that is none of 0 to 7 is above 7, where every sector is protected
 pub above : (n bp : ℕ) → 7 < bp → protectedOf n bp ≡ n
-unfolding uncelled
+unfolding byRule
 above n bp h = rw (table-is, ne-eqb bp 0 (λ e. omega arith), lt-leb bp 7)
 
 -- no more sectors are protected than there are
 pub protected-most : (n bp : ℕ) → protectedOf n bp ≤ n
-unfolding uncelled
+unfolding byRule
 protected-most n bp =
     rw table-is
     (cond-ind (λ (m : ℕ). m ≤ n) (eqb bp 0) (omega arith) (cond-ind (λ (m : ℕ). m ≤ n) (leb bp 7) (omega arith) (omega arith)))

@@ -22,9 +22,9 @@ unfoldable pub columnOf : ℕ → List ℕ
 columnOf sectors = cond (eqb sectors 4) column4 (cond (eqb sectors 8) column8 (cond (eqb sectors 64) column64 []))
 
 -- where the table has no cell: the smaller of the sector count and 2 to the power BP - 1, nothing for BP 0, and every sector for BP above 7
-unfoldable pub uncelled : ℕ → ℕ → ℕ
-uncelled sectors bp = cond (eqb bp 0) 0 (cond (leb bp 7) (min sectors (2 ^ (bp - 1))) sectors)
+unfoldable pub byRule : ℕ → ℕ → ℕ
+byRule sectors bp = cond (eqb bp 0) 0 (cond (leb bp 7) (min sectors (2 ^ (bp - 1))) sectors)
 
 -- how many of the highest sectors are protected
 unfoldable pub protectedOf : ℕ → ℕ → ℕ
-protectedOf sectors bp = getD (columnOf sectors) bp (uncelled sectors bp)
+protectedOf sectors bp = getD (columnOf sectors) bp (byRule sectors bp)

@@ -9,7 +9,7 @@ returns : tie.Need-returns
 returns c =
     let b = c .before in
     let a = b .before .before .before .before .args in
-    job-refused (a .device) (a .array .now) (a .sent .now) (a .pulses) (a .w) (a .response .now) (b .refused .result) (b .refused .ensures) (c .if1 .taken)
+    job-refused (a .device) (a .array .now) (a .sent .now) (a .pulses) (a .w) (a .response .now) (b .host-number .result) (b .host-number .ensures) (c .if1 .taken)
 
 returns-2 : tie.Need-returns-2
 returns-2 c =
@@ -20,7 +20,7 @@ returns-2 c =
     let l = b .before .before .before .before .before .before .before in
     let h = l .before .before in
     let a = h .before .before .before .before .args in
-    job-passes (a .device) (a .array .now) (a .sent .now) (a .pulses) (a .w) (a .response .now) (l .longest-cycle .result) (sym (h .refused .ensures) ∙ l .before .if1 .left)
+    job-passes (a .device) (a .array .now) (a .sent .now) (a .pulses) (a .w) (a .response .now) (l .longest-cycle .result) (sym (h .host-number .ensures) ∙ l .before .if1 .left)
     (l .longest-cycle .ensures) (on .0) (on .1) (b .transact .ensures) rest (last .0) (last .1)
 
 pub run-job-spec : {M : Type 1} → statement M

@@ -28,7 +28,7 @@ returns-2 c =
     let m : Meets (transacted (unpackOf (a .packed .now) .device) (a .array .now) (a .sent .now) (a .pulses) (high (a .w)) (a .response .now)) (t .transact .result .answer) (t .transact .result .device) (t .transact .last .1 .0) (t .transact .last .1 .1 .1 .1 .1 .0) =
     rw (← u .ensures) (t .transact .ensures) in
     let s = next-sound (a .packed .now) (a .array .now) (a .sent .now) (a .pulses) (high (a .w)) (a .response .now) z m in
-    carried (a .packed .now) (a .array .now) (a .sent .now) (a .pulses) (a .w) (a .response .now) z m (c .in-one .ensures)
+    carried (a .packed .now) (a .array .now) (a .sent .now) (a .pulses) (a .w) (a .response .now) z m (c .packed-answer .ensures)
     (written (t .transact .result .answer .number) (a .packed .now) (c .before .before .before .before .before .if2 .taken) refl (packs (c .before .before .before .pack .ensures) (opened (a .packed .now) z .long) s))
 
 returns-3 : tie.Need-returns-3
@@ -40,7 +40,7 @@ returns-3 c =
     let z : unpackOf (a .packed .now) .answer ≡ 0 = sym e ∙ t .before .before .before .if1 .left in
     let m : Meets (transacted (unpackOf (a .packed .now) .device) (a .array .now) (a .sent .now) (a .pulses) (high (a .w)) (a .response .now)) (t .transact .result .answer) (t .transact .result .device) (t .transact .last .1 .0) (t .transact .last .1 .1 .1 .1 .1 .0) =
     rw (← u .ensures) (t .transact .ensures) in
-    carried (a .packed .now) (a .array .now) (a .sent .now) (a .pulses) (a .w) (a .response .now) z m (c .in-one2 .ensures) (leaves (t .transact .result .answer) (t .transact .result .device) (a .packed .now) (c .before .if2 .left))
+    carried (a .packed .now) (a .array .now) (a .sent .now) (a .pulses) (a .w) (a .response .now) z m (c .packed-answer2 .ensures) (leaves (t .transact .result .answer) (t .transact .result .device) (a .packed .now) (c .before .if2 .left))
 
 pub m25p-transact-spec : {M : Type 1} → statement M
 m25p-transact-spec =

@@ -2,42 +2,42 @@
 use Prim.Native.Nat.{_<_}
 use mathlib.Core.Path.{sym}
 use native.Mathlib.Omega.{arith}
-use Rattle.parts.specs.Protected.{uncelled}
+use Rattle.parts.specs.Protected.{byRule}
 use Rattle.parts.proofs.Laws.{table-is, above}
 use borrow.Author.Needs.{needs}
 use Rattle.parts.proofs.protected.Statement.{statement}
 use Rattle.parts.proofs.protected.Tie as tie
 
 returns : tie.Need-returns
-unfolding uncelled
+unfolding byRule
 returns c = rw (table-is, c .match .keys1)
 
 returns-2 : tie.Need-returns-2
-unfolding uncelled
+unfolding byRule
 returns-2 c = rw (table-is, c .before .match .keys2) (c .least .ensures)
 
 returns-3 : tie.Need-returns-3
-unfolding uncelled
+unfolding byRule
 returns-3 c = rw (table-is, c .before .match .keys3) (c .least2 .ensures)
 
 returns-4 : tie.Need-returns-4
-unfolding uncelled
+unfolding byRule
 returns-4 c = rw (table-is, c .before .match .keys4) (c .least3 .ensures)
 
 returns-5 : tie.Need-returns-5
-unfolding uncelled
+unfolding byRule
 returns-5 c = rw (table-is, c .before .match .keys5) (c .least4 .ensures)
 
 returns-6 : tie.Need-returns-6
-unfolding uncelled
+unfolding byRule
 returns-6 c = rw (table-is, c .before .match .keys6) (c .least5 .ensures)
 
 returns-7 : tie.Need-returns-7
-unfolding uncelled
+unfolding byRule
 returns-7 c = rw (table-is, c .before .match .keys7) (c .least6 .ensures)
 
 returns-8 : tie.Need-returns-8
-unfolding uncelled
+unfolding byRule
 returns-8 c = rw (table-is, c .before .match .keys8) (c .least7 .ensures)
 
 returns-9 : tie.Need-returns-9

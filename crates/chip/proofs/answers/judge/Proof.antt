@@ -5,7 +5,7 @@ use Rattle.chip.proofs.answers.judge.Statement.{statement}
 use Rattle.chip.proofs.answers.judge.Tie as tie
 
 returns : tie.Need-returns
-returns c = c .decide .ensures ∙ rw (c .before .ignored .ensures, c .before .before .refused .ensures)
+returns c = c .decide .ensures ∙ rw (c .before .chip-number .ensures, c .before .before .host-number .ensures)
 
 pub judge-spec : {M : Type 1} → statement M
 judge-spec =

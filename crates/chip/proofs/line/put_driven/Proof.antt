@@ -1,6 +1,5 @@
 -- `chip::line::put_driven` meets its contract.
 use mathlib.Core.Path.{_∙_}
-use Rattle.memory.specs.Memory.{rolled}
 use borrow.Author.Needs.{needs}
 use Rattle.chip.proofs.line.put_driven.Statement.{statement}
 use Rattle.chip.proofs.line.put_driven.Tie as tie
@@ -15,7 +14,6 @@ returns-3 : tie.Need-returns-3
 returns-3 c = c .before .before .fill2 .ensures ∙ rw (c .before .before .before .before .enum-told3 .given .1)
 
 returns-4 : tie.Need-returns-4
-unfolding rolled
 returns-4 c = c .before .before .read-rolling .ensures ∙ rw (c .before .before .before .before .enum-told4 .given .1)
 
 returns-5 : tie.Need-returns-5
