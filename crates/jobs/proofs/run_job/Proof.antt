@@ -7,9 +7,9 @@ use Rattle.jobs.proofs.run_job.Tie as tie
 
 returns : tie.Need-returns
 returns c =
-    let b = c .before in
-    let a = b .before .before .before .before .args in
-    job-refused (a .device) (a .array .now) (a .sent .now) (a .pulses) (a .w) (a .response .now) (b .host-number .result) (b .host-number .ensures) (c .if1 .taken)
+    let h = c .before .before .host-number in
+    let a = c .before .before .before .before .before .before .args in
+    rw (c .bare .ensures) (job-refused (a .device) (a .array .now) (a .sent .now) (a .pulses) (a .w) (a .response .now) (h .result) (h .ensures) (c .before .if1 .taken))
 
 returns-2 : tie.Need-returns-2
 returns-2 c =
@@ -27,6 +27,7 @@ pub run-job-spec : {M : Type 1} → statement M
 run-job-spec =
     tie.close
     (tie.spec
+    (λ c κs. search needs)
     (λ c κs. search needs)
     returns
     (λ c κs. search needs)
