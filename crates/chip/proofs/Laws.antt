@@ -20,6 +20,7 @@ use Rattle.parts.specs.Parts.{figuresOf}
 use Rattle.device.specs.declared.Device.{Device}
 use Rattle.device.specs.Device.{statusByte, onZero, zeroRecord, delivered}
 use Rattle.device.specs.declared.Checked.{Checked}
+use Rattle.device.proofs.Outcomes.{same-checked}
 use Rattle.chip.specs.declared.table.Row.{Row}
 use Rattle.chip.specs.declared.table.Instruction.{Instruction}
 use Rattle.chip.specs.declared.line.Span.{Span}
@@ -153,12 +154,7 @@ one-outcome s t = (s .answer ∙ sym (t .answer), s .device ∙ sym (t .device),
 -- so does a delivery's
 pub one-delivery : {part : ℕ} {array : List ℕ} {program sector bulk status : ℕ} {r s : Checked} {array′ array″ : List ℕ}
     → Delivered part array program sector bulk status r array′ → Delivered part array program sector bulk status s array″ → (r ≡ s) × (array′ ≡ array″)
-one-delivery {r = r} {s = s} p q = (same (p .answer ∙ sym (q .answer)) (p .device ∙ sym (q .device)), p .memory ∙ sym (q .memory))
-  where
-    same : r .answer ≡ s .answer → r .device ≡ s .device → r ≡ s
-    same e f =
-        let x : _≡_ {A = Checked} (record { answer = r .answer; device = r .device }) (record { answer = s .answer; device = s .device }) = rw (e, f) in
-        x
+one-delivery p q = (same-checked (p .answer ∙ sym (q .answer)) (p .device ∙ sym (q .device)), p .memory ∙ sym (q .memory))
 
 -- a part number above 255 is no part's
 pub large : (part array p s b t : ℕ) → 255 < part → deliveryAnswer part array p s b t ≡ 1

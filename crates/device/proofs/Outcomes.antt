@@ -9,6 +9,12 @@ use Rattle.device.specs.declared.Checked.{Checked}
 use Rattle.device.specs.Device.{waitCall, powerUpCall}
 use Rattle.device.specs.Packing.{Packed, unpackOf}
 
+-- an answer and a record handed back are equal where both are
+pub same-checked : {r s : Checked} → r .answer ≡ s .answer → r .device ≡ s .device → r ≡ s
+same-checked {r} {s} e f =
+    let x : _≡_ {A = Checked} (record { answer = r .answer; device = r .device }) (record { answer = s .answer; device = s .device }) = rw (e, f) in
+    x
+
 -- wait
 pub wait-one-outcome : (d : Device) (t : ℕ) {r₁ r₂ : Checked} → r₁ ≡ waitCall d t → r₂ ≡ waitCall d t → r₁ ≡ r₂
 wait-one-outcome d t p q = one-outcome p q

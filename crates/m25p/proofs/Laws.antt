@@ -100,14 +100,30 @@ carried-on call packed z y e p =
     let x : unpackAnswer packed ≡ 0 = sym (named packed) ∙ z in
     rw x (record { answer = rw y e; bytes = rw y p })
 
--- a sound record is waited and powered up with answer 0, and stays sound
-pub waits : (d : Device) (t : ℕ) → sound d ≡ true → (waitCall d t .answer ≡ 0) × (sound (waitCall d t .device) ≡ true)
-unfolding waitCall soundAnswer
-waits d t s = (rw s, wait-sound d t s)
+-- a checked call that answers a sound record with 0 and leaves it sound
+abbrev pub Keeps : (Device → Checked) → Type 0
+Keeps call = (d : Device) → sound d ≡ true → (call d .answer ≡ 0) × (sound (call d .device) ≡ true)
 
-pub powers : (d : Device) → sound d ≡ true → (powerUpCall d .answer ≡ 0) × (sound (powerUpCall d .device) ≡ true)
+pub waits : (t : ℕ) → Keeps (λ d. waitCall d t)
+unfolding waitCall soundAnswer
+waits t d s = (rw s, wait-sound d t s)
+
+pub powers : Keeps powerUpCall
 unfolding powerUpCall soundAnswer
 powers d s = (rw s, power-up-sound d s)
+
+-- as the code goes: what unpacking gave, and the call on it
+module _ (call : Device → Checked) (packed : List ℕ) {came : Checked} (e : came ≡ unpackOf packed) where
+  pub came-refused : {r : ℕ} → (came .answer ≡ 0 → ⊥) → r ≡ packedAnswer (bare (came .answer)) → CalledOn (checkedC call packed) packed r packed
+  came-refused n h = let a = ap (λ (x : Checked). x .answer) e in refused-on call packed (λ z. n (a ∙ z)) (h ∙ ap (λ (k : ℕ). packedAnswer (bare k)) a)
+
+  pub came-carried : Keeps call → {done : Checked} {k r : ℕ} {packed′ : List ℕ} → came .answer ≡ 0 → done ≡ call (came .device) → Packed (done .device) packed k packed′ → r ≡ packedAnswer (bare 0)
+      → CalledOn (checkedC call packed) packed r packed′
+  came-carried keeps z d p h =
+      let y : unpackOf packed .answer ≡ 0 = sym (ap (λ (x : Checked). x .answer) e) ∙ z in
+      let w = keeps (unpackOf packed .device) (unpacked-sound packed y) in
+      let n = ap (λ (x : Checked). x .device) d ∙ ap (λ (x : Checked). call (x .device) .device) e in
+      carried-on call packed y (w .0) h (packs p (opened packed y .long) (rw n (w .1)) ∙ ap packOf n)
 
 pub one-call-on : {c : Checked} {packed packed′ packed″ : List ℕ} {r s : ℕ} → CalledOn c packed r packed′ → CalledOn c packed s packed″ → (r ≡ s) × (packed′ ≡ packed″)
 one-call-on p q = (p .answer ∙ sym (q .answer), p .bytes ∙ sym (q .bytes))

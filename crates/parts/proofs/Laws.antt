@@ -8,17 +8,10 @@ use native.Mathlib.Omega.{arith}
 use lib.Dec.{eqb, leb, lit<, lit≤}
 use lib.ListN.{getD}
 use borrow.Author.Tests.{eqb-true, ne-eqb, lt-leb}
+use Rattle.slices.proofs.Choices.{cond-ind}
 use Rattle.parts.specs.Parts.{figuresOf, bench, m25p10a, m25p40, m25p32, m25p128}
 use Rattle.parts.specs.Protected.{protectedOf, columnOf, byRule, column4, column8, column64}
 use Rattle.parts.specs.declared.Figures.{Figures}
-
--- a promise of the form `r ≡ definition` admits one outcome
-pub one-outcome : {A : Type 0} {x r₁ r₂ : A} → r₁ ≡ x → r₂ ≡ x → r₁ ≡ r₂
-one-outcome p q = p ∙ sym q
-
-cond-ind : {A : Type 0} (P : A → Type 0) (b : Bool) {x y : A} → P x → P y → P (cond b x y)
-cond-ind P true p q = p
-cond-ind P false p q = q
 
 -- what holds of each part's figures holds of every number's
 pub figures-ind : (P : Figures → Type 0) → P bench → P m25p10a → P m25p40 → P m25p32 → P m25p128 → (p : ℕ) → P (figuresOf p)

@@ -1,35 +1,20 @@
 -- `m25p::m25p_power_up` meets its contract.
-use mathlib.Core.Path.{_≡_, sym, ap, _∙_}
-use Prim.Native.Nat.{ℕ}
-use Rattle.device.specs.declared.Checked.{Checked}
-use Rattle.device.specs.Device.{powerUpCall}
-use Rattle.device.specs.Packing.{packOf, unpackOf}
-use Rattle.device.proofs.Inverse.{opened}
-use Rattle.chip.specs.Outcome.{bare}
-use Rattle.m25p.specs.Calls.{packedAnswer}
-use Rattle.m25p.proofs.Laws.{unpacked-sound, packs, refused-on, carried-on, powers}
 use borrow.Author.Needs.{needs}
+use Rattle.device.specs.Device.{powerUpCall}
+use Rattle.m25p.proofs.Laws.{powers, came-refused, came-carried}
 use Rattle.m25p.proofs.m25p_power_up.Statement.{statement}
 use Rattle.m25p.proofs.m25p_power_up.Tie as tie
 
 returns : tie.Need-returns
 returns c =
-    let u = c .before .before .before .unpack in
     let a = c .before .before .before .before .before .before .args in
-    let e = ap (λ (x : Checked). x .answer) (u .ensures) in
-    refused-on powerUpCall (a .packed .now) (λ z. c .before .if1 .taken (e ∙ z)) (c .bare .ensures ∙ ap (λ (k : ℕ). packedAnswer (bare k)) e)
+    came-refused powerUpCall (a .packed .now) (c .before .before .before .unpack .ensures) (c .before .if1 .taken) (c .bare .ensures)
 
 returns-2 : tie.Need-returns-2
 returns-2 c =
     let b = c .before .before .before .before .before in
-    let u = b .before .before .before .unpack in
     let a = b .before .before .before .before .before .before .args in
-    let d = unpackOf (a .packed .now) .device in
-    let z : unpackOf (a .packed .now) .answer ≡ 0 = sym (ap (λ (x : Checked). x .answer) (u .ensures)) ∙ b .before .if1 .left in
-    let w = powers d (unpacked-sound (a .packed .now) z) in
-    let n : b .power-up .result .device ≡ powerUpCall d .device =
-    ap (λ (x : Checked). x .device) (b .power-up .ensures) ∙ ap (λ (x : Checked). powerUpCall (x .device) .device) (u .ensures) in
-    carried-on powerUpCall (a .packed .now) z (w .0) (c .bare2 .ensures) (packs (c .before .before .before .pack .ensures) (opened (a .packed .now) z .long) (rw n (w .1)) ∙ ap packOf n)
+    came-carried powerUpCall (a .packed .now) (b .before .before .before .unpack .ensures) powers (b .before .if1 .left) (b .power-up .ensures) (c .before .before .before .pack .ensures) (c .bare2 .ensures)
 
 pub m25p-power-up-spec : {M : Type 1} → statement M
 m25p-power-up-spec =
