@@ -195,21 +195,47 @@ no-effect d array samples more e =
     ap (λ (x : Seen). carriedAll (record { device = d; array = array }) (x .found)) (from-append atRest samples more)
     ∙ ap (λ (ts : List Transaction). carriedAll (record { device = d; array = array }) ts) (endless-found (seenFrom atRest samples) more e)
 
-held-ends : (a b : Bool) → a && b && false ≡ false
-held-ends true true = refl
-held-ends true false = refl
-held-ends false b = refl
+-- Select is low in each of these samples
+abbrev pub StaysLow : List ℕ → Type 0
+StaysLow more = (i : ℕ) → i < length more → levelsOf (getD more i 0) .select ≡ false
 
--- rising during a hold throws the transaction away
-pub thrown-away : (p : Pins) (now : Levels) → p .holding ≡ true → ends p now ≡ false
-unfolding ends
-thrown-away p now h = rw h (held-ends (not (p .select)) (now .select))
+-- wherever Select rises in `more`, which comes after `samples`, there is a hold before that sample
+abbrev pub RisesInHold : List ℕ → List ℕ → Type 0
+RisesInHold samples more =
+    (i : ℕ) → i < length more → seen (samples ++ take i more) .pins .select ≡ false → levelsOf (getD more i 0) .select ≡ true → seen (samples ++ take i more) .pins .holding ≡ true
 
--- with Select high nothing ends before it has fallen
-pub unfinished : (p : Pins) (now : Levels) → now .select ≡ false → ends p now ≡ false
+-- sample by sample nothing ends
+endless : (x : Seen) (more : List ℕ) → ((i : ℕ) → i < length more → ends (seenFrom x (take i more) .pins) (levelsOf (getD more i 0)) ≡ false) → Endless x more
+endless x [] h = tt
+endless x (s ∷ more) h = (h 0 (omega arith), endless (step x (levelsOf s)) more (λ i lt. h (suc i) (omega arith)))
+
+-- nothing ends while Select is low
+low-endless : (p : Pins) (now : Levels) → now .select ≡ false → ends p now ≡ false
 unfolding ends
-unfinished p now h = rw h (still (not (p .select)) (not (p .holding)))
+low-endless p now h = rw h (still (not (p .select)) (not (p .holding)))
   where
     still : (a b : Bool) → a && false && b ≡ false
     still true b = refl
     still false b = refl
+
+-- nothing ends where a rise of Select is one in a hold
+held-endless : (p : Pins) (now : Levels) → (p .select ≡ false → now .select ≡ true → p .holding ≡ true) → ends p now ≡ false
+unfolding ends
+held-endless p now h = go (p .select) (now .select) (p .holding) h
+  where
+    go : (a b h : Bool) → (a ≡ false → b ≡ true → h ≡ true) → not a && b && not h ≡ false
+    go true b h f = refl
+    go false false h f = refl
+    go false true h f = rw (f refl refl)
+
+-- a transaction unfinished at the run's end has no effect: Select stays low in `more`, whatever is shifted in there
+pub unfinished-has-no-effect : (d : Device) (array samples more : List ℕ) → StaysLow more → chipAfter d array (samples ++ more) ≡ chipAfter d array samples
+unfinished-has-no-effect d array samples more low =
+    no-effect d array samples more (endless (seen samples) more (λ i lt. low-endless (seenFrom (seen samples) (take i more) .pins) (levelsOf (getD more i 0)) (low i lt)))
+
+-- rising during a hold throws the transaction away: where Select rises in a hold only, `more` has no effect
+pub thrown-away-has-no-effect : (d : Device) (array samples more : List ℕ) → RisesInHold samples more → chipAfter d array (samples ++ more) ≡ chipAfter d array samples
+unfolding seen
+thrown-away-has-no-effect d array samples more held =
+    no-effect d array samples more
+    (endless (seen samples) more (λ i lt. held-endless (seenFrom (seen samples) (take i more) .pins) (levelsOf (getD more i 0)) (rw (from-append atRest samples (take i more)) at (held i lt))))
