@@ -1,19 +1,20 @@
 -- What a run answers, and that its promise admits one outcome only.
 -- Assumes nothing.
 use mathlib.Core.Path.{_≡_, refl, sym, ap, _∙_}
-use mathlib.Core.Bool.{Bool, true, false, cond, not}
-use mathlib.Core.List.{List}
-use Prim.Native.Nat.{ℕ, zero, suc, _≤_}
+use mathlib.Core.Bool.{Bool, true, false, cond, not, _||_, false≢true}
+use mathlib.Core.List.{List, [], _∷_}
+use mathlib.Core.Logic.{_⊎_, inl, inr, ⊎-elim}
+use Prim.Native.Nat.{ℕ, zero, suc, _≤_, _<_}
 use native.Mathlib.Omega.{arith}
-use borrow.Author.Tests.{eqb-true, ltb-false}
+use borrow.Author.Tests.{eqb-true, eq-eqb, ne-eqb, ltb-true, ltb-false, lt-ltb}
 use lib.Dec.{eqb, ltb}
-use lib.ListN.{length}
+use lib.ListN.{length, take}
 use Rattle.slices.specs.Changed.{mapAt, window}
 use Rattle.parts.specs.Parts.{figuresOf}
 use Rattle.device.specs.declared.Device.{Device}
 use Rattle.device.specs.declared.Checked.{Checked}
 use Rattle.device.specs.Device.{sound, onZero}
-use Rattle.pins.specs.Pins.{oddSamples, tooLong}
+use Rattle.pins.specs.Pins.{levelsOf, nextTaking, Seen, atRest, step, seenFrom, seen, oddSamples, tooLong}
 use Rattle.pins.specs.Run.{chipAfter, outputAt, runAnswer, Ran}
 use Rattle.pins.specs.Counted.{CarriedAll}
 
@@ -49,6 +50,47 @@ accepted d array samples output h =
       short = p .3;
       room = ltb-false output (length samples) (p .4);
     }
+
+-- 6, 2, 21, 22, 23, in that order: each is the answer where it applies and none before it does, whatever the rest
+pub record InOrder (d : Device) (array : ℕ) (samples : List ℕ) (output : ℕ) : Type 0 where
+  pub unsound : sound d ≡ false → runAnswer d array samples output ≡ 6
+  pub other-array : sound d ≡ true → (array ≡ figuresOf (d .part) .bytes → ⊥) → runAnswer d array samples output ≡ 2
+  pub odd : sound d ≡ true → array ≡ figuresOf (d .part) .bytes → oddSamples samples ≡ true → runAnswer d array samples output ≡ 21
+  pub long : sound d ≡ true → array ≡ figuresOf (d .part) .bytes → oddSamples samples ≡ false → tooLong samples ≡ true → runAnswer d array samples output ≡ 22
+  pub no-room : sound d ≡ true → array ≡ figuresOf (d .part) .bytes → oddSamples samples ≡ false → tooLong samples ≡ false → output < length samples → runAnswer d array samples output ≡ 23
+
+pub in-order : (d : Device) (array : ℕ) (samples : List ℕ) (output : ℕ) → InOrder d array samples output
+unfolding runAnswer
+in-order d array samples output =
+    let bytes = figuresOf (d .part) .bytes in
+    record {
+      unsound = λ s. rw s;
+      other-array = λ s n. rw (s, ne-eqb array bytes n);
+      odd = λ s a o. rw (s, eq-eqb array bytes a, o);
+      long = λ s a o l. rw (s, eq-eqb array bytes a, o, l);
+      no-room = λ s a o l r. rw (s, eq-eqb array bytes a, o, l, lt-ltb output (length samples) r);
+    }
+
+-- after some of these samples more than 65,536 bytes were taken
+abbrev pub LongIn : Seen → List ℕ → Type 0
+LongIn x samples = (i : ℕ) × (65536 < length (seenFrom x (take i samples) .taking .sent))
+
+long-first : (x : Seen) (s : ℕ) (samples : List ℕ) → step x (levelsOf s) .long ≡ true → (x .long ≡ true) ⊎ LongIn x (s ∷ samples)
+unfolding step
+long-first x s samples = go (x .long) (ltb 65536 (length (nextTaking (x .pins) (levelsOf s) (x .taking) .sent))) refl
+  where
+    go : (a b : Bool) → ltb 65536 (length (nextTaking (x .pins) (levelsOf s) (x .taking) .sent)) ≡ b → a || b ≡ true → (a ≡ true) ⊎ LongIn x (s ∷ samples)
+    go true b e h = inl refl
+    go false b e h = inr (1, ltb-true 65536 (length (nextTaking (x .pins) (levelsOf s) (x .taking) .sent)) (e ∙ h))
+
+long-from : (x : Seen) (samples : List ℕ) → seenFrom x samples .long ≡ true → (x .long ≡ true) ⊎ LongIn x samples
+long-from x [] h = inl h
+long-from x (s ∷ samples) h = ⊎-elim (long-first x s samples) (λ l. inr (suc (l .0), l .1)) (long-from (step x (levelsOf s)) samples h)
+
+-- 22 means that more than 65,536 bytes were taken after some of the samples; by `short` no such transaction is missed
+pub long-means : (samples : List ℕ) → tooLong samples ≡ true → LongIn atRest samples
+unfolding tooLong seen atRest
+long-means samples h = ⊎-elim (λ e. absurd (false≢true e)) (λ l. l) (long-from atRest samples h)
 
 kept : {A : Type 0} (k : ℕ) (x y : A) → (k ≡ 0 → ⊥) → y ≡ onZero k x y
 kept zero x y n = absurd (n refl)
