@@ -69,27 +69,24 @@ ended-is c p now t response room =
     let e = any-response (c .device) (c .array) (t .sent) (t .pulses) (now .w) response zeros room l in
     rw (e .0, e .1)
 
-all-append : (c : Chip) (ts : List Transaction) (t : Transaction) → carriedAll c (ts ++ (t ∷ [])) ≡ carriedOut (carriedAll c ts) t
-all-append c [] t = refl
-all-append c (x ∷ ts) t = all-append (carriedOut c x) ts t
-
--- the transactions found with one sample more, carried out
-pub found-next : (c : Chip) (x : Seen) (now : Levels) → carriedAll c (step x now .found) ≡ cond (ends (x .pins) now) (carriedOut (carriedAll c (x .found)) (ending (x .taking) now)) (carriedAll c (x .found))
-unfolding step nextFound
-found-next c x now = go (ends (x .pins) now)
-  where
-    go : (b : Bool) → carriedAll c (cond b (x .found ++ (ending (x .taking) now ∷ [])) (x .found)) ≡ cond b (carriedOut (carriedAll c (x .found)) (ending (x .taking) now)) (carriedAll c (x .found))
-    go true = all-append c (x .found) (ending (x .taking) now)
-    go false = refl
+pub all-append : (c : Chip) (ts us : List Transaction) → carriedAll c (ts ++ us) ≡ carriedAll (carriedAll c ts) us
+all-append c [] us = refl
+all-append c (t ∷ ts) us = all-append (carriedOut c t) ts us
 
 -- the chip after one sample more
 pub chip-next : (d : Device) (array samples : List ℕ) (i : ℕ) → i < length samples
     → chipAfter d array (take (i + 1) samples)
     ≡ cond (ends (seen (take i samples) .pins) (levelsOf (getD samples i 0))) (carriedOut (chipAfter d array (take i samples)) (ending (seen (take i samples) .taking) (levelsOf (getD samples i 0)))) (chipAfter d array (take i samples))
-unfolding chipAfter
+unfolding chipAfter step nextFound
 chip-next d array samples i h =
     ap (λ (x : Seen). carriedAll (record { device = d; array = array }) (x .found)) (seen-next samples i h)
-    ∙ found-next (record { device = d; array = array }) (seen (take i samples)) (levelsOf (getD samples i 0))
+    ∙ go (seen (take i samples)) (levelsOf (getD samples i 0)) (ends (seen (take i samples) .pins) (levelsOf (getD samples i 0)))
+  where
+    go : (x : Seen) (now : Levels) (b : Bool)
+        → carriedAll (record { device = d; array = array }) (cond b (x .found ++ (ending (x .taking) now ∷ [])) (x .found))
+        ≡ cond b (carriedOut (carriedAll (record { device = d; array = array }) (x .found)) (ending (x .taking) now)) (carriedAll (record { device = d; array = array }) (x .found))
+    go x now true = all-append (record { device = d; array = array }) (x .found) (ending (x .taking) now ∷ [])
+    go x now false = refl
 
 ends-changes : (a b h : Bool) → a && not b || not a && b ≡ false → not a && b && h ≡ false
 ends-changes true true h e = refl

@@ -2,7 +2,7 @@
 -- Assumes nothing.
 use mathlib.Core.Path.{_≡_, refl, sym, ap, _∙_, subst}
 use mathlib.Core.Bool.{Bool, true, false, cond, _&&_}
-use mathlib.Core.List.{List, [], _∷_, _++_}
+use mathlib.Core.List.{List, [], _∷_, _++_, append-nil}
 use Prim.Native.Nat.{ℕ, zero, suc, _+_, _≤_, _<_}
 use native.Mathlib.Numerals.{add-one}
 use native.Mathlib.Omega.{arith}
@@ -10,7 +10,6 @@ use borrow.Author.Tests.{ltb-true, ltb-false}
 use lib.Dec.{T, eqb, ltb}
 use lib.ListN.{length, getD, take, replicate, length-replicate}
 use Rattle.slices.specs.Changed.{mapAt, window, sumAt}
-use Rattle.slices.proofs.Choices.{cond-ind}
 use Rattle.slices.proofs.Maps.{map-is}
 use Rattle.slices.proofs.Windows.{window-in, window-above}
 use Rattle.memory.specs.Memory as memory-is
@@ -27,20 +26,28 @@ use Rattle.chip.specs.Outcome.{Outcome, outcomeOf, transacted}
 use Rattle.chip.proofs.Rules.{array-length}
 use Rattle.chip.specs.Worked.{same}
 use Rattle.pins.specs.declared.levels.Levels.{Levels}
-use Rattle.pins.specs.Pins.{levelsOf, rest, onSelect, onClock, onHold, nextPins, changes, ends, takes, moves, Transaction, anew, shifted, bitTaken, movedOn, clocked, nextTaking, nextFound, Seen, atRest, step, seenFrom, seen, tooLong, oddSamples}
+use Rattle.pins.specs.declared.levels.Pins.{Pins}
+use Rattle.pins.specs.Pins.{levelsOf, rest, onSelect, onClock, onHold, nextPins, changes, ends, takes, moves, Transaction, Taking, anew, shifted, bitTaken, movedOn, clocked, nextTaking, nextFound, Seen, atRest, step, seenFrom, seen, tooLong, oddSamples}
 use Rattle.pins.specs.Run.{Chip, carriedOut, carriedAll, chipAfter, outputOf, outputAfter, outputAt, runAnswer, Ran}
 use Rattle.pins.specs.Worked.{Case, samplesIn, unwritten, written, asTold, AllAsTold, cases}
-use Rattle.pins.proofs.Carried.{ending, found-next}
+use Rattle.pins.proofs.Carried.{ending, all-append}
 
 -- ---- sample by sample
 
--- the chip after one sample more, its array of a given length
+-- one transaction on an array of a given length
+abbrev oneAt : ℕ → Chip → Transaction → Chip
+oneAt len c t =
+    let o = outcomeOf (verdictOf (c .device) len (t .sent) (t .pulses) (t .w) (length (t .sent))) (c .device) (c .array) (t .sent) (replicate (length (t .sent)) 0) in
+    record { device = o .device; array = o .array }
+
+-- transactions in order
+abbrev allAt : ℕ → Chip → List Transaction → Chip
+allAt len c [] = c
+allAt len c (t ∷ ts) = allAt len (oneAt len c t) ts
+
+-- the chip after one sample more
 abbrev chipStep : ℕ → Chip → Seen → Levels → Chip
-chipStep len c x now =
-    cond (ends (x .pins) now)
-    (let o = outcomeOf (verdictOf (c .device) len (x .taking .sent) (x .taking .pulses) (now .w) (length (x .taking .sent))) (c .device) (c .array) (x .taking .sent) (replicate (length (x .taking .sent)) 0) in
-    record { device = o .device; array = o .array })
-    c
+chipStep len c x now = allAt len c (nextFound (x .pins) now (x .taking) [])
 
 -- the output as it is written
 unfoldable shownFrom : ℕ → Chip → Seen → List ℕ → List ℕ → List ℕ
@@ -64,25 +71,44 @@ chipFrom len c x (s ∷ samples) =
 -- ---- which is what the run does
 
 -- the length given is the array's
-module _ (len : ℕ) (c : Chip) (x : Seen) (now : Levels) (whole : length (c .array) ≡ len) where
-  step-is : chipStep len c x now ≡ cond (ends (x .pins) now) (carriedOut c (ending (x .taking) now)) c
-  unfolding carriedOut transacted
-  step-is = rw (whole, length-replicate {A = ℕ} (length (x .taking .sent)) 0)
+one-is : (len : ℕ) (c : Chip) (t : Transaction) → length (c .array) ≡ len → (oneAt len c t ≡ carriedOut c t) × (length (oneAt len c t .array) ≡ len)
+unfolding carriedOut transacted
+one-is len c t whole =
+    let e : oneAt len c t ≡ carriedOut c t = rw (whole, length-replicate {A = ℕ} (length (t .sent)) 0) in
+    (e, ap (λ (y : Chip). length (y .array)) e ∙ (array-length (c .device) (c .array) (t .sent) (t .pulses) (t .w) (replicate (length (t .sent)) 0) ∙ whole))
 
-  step-whole : length (chipStep len c x now .array) ≡ len
-  unfolding carriedOut
-  step-whole = rw step-is (cond-ind (λ (y : Chip). length (y .array) ≡ len) (ends (x .pins) now) (array-length (c .device) (c .array) (x .taking .sent) (x .taking .pulses) (now .w) (replicate (length (x .taking .sent)) 0) ∙ whole) whole)
+all-is : (len : ℕ) (c : Chip) (ts : List Transaction) → length (c .array) ≡ len → (allAt len c ts ≡ carriedAll c ts) × (length (allAt len c ts .array) ≡ len)
+all-is len c [] whole = (refl, whole)
+all-is len c (t ∷ ts) whole =
+    let o = one-is len c t whole in
+    let a = all-is len (oneAt len c t) ts (o .1) in
+    (a .0 ∙ ap (λ (y : Chip). carriedAll y ts) (o .0), a .1)
+
+-- the transactions found grow at their end
+found-more : (p : Pins) (now : Levels) (t : Taking) (found : List Transaction) → nextFound p now t found ≡ found ++ nextFound p now t []
+unfolding nextFound
+found-more p now t found = go (ends p now)
+  where
+    go : (b : Bool) → cond b (found ++ (ending t now ∷ [])) found ≡ found ++ cond b ([] ++ (ending t now ∷ [])) []
+    go true = refl
+    go false = sym (append-nil found)
 
 -- c is the chip after the transactions found so far, from c₀ on
 module _ (len : ℕ) (c₀ : Chip) where
+  step-whole : (c : Chip) (x : Seen) (now : Levels) → length (c .array) ≡ len → length (chipStep len c x now .array) ≡ len
+  step-whole c x now whole = all-is len c (nextFound (x .pins) now (x .taking) []) whole .1
+
   step-found : (c : Chip) (x : Seen) (now : Levels) → length (c .array) ≡ len → c ≡ carriedAll c₀ (x .found) → chipStep len c x now ≡ carriedAll c₀ (step x now .found)
-  step-found c x now whole e = step-is len c x now whole ∙ (rw e (sym (found-next c₀ x now)))
+  unfolding step
+  step-found c x now whole e =
+      all-is len c (nextFound (x .pins) now (x .taking) []) whole .0
+      ∙ (rw e (sym (all-append c₀ (x .found) (nextFound (x .pins) now (x .taking) []))) ∙ ap (carriedAll c₀) (sym (found-more (x .pins) now (x .taking) (x .found))))
 
   chip-from : (c : Chip) (x : Seen) (samples : List ℕ) → length (c .array) ≡ len → c ≡ carriedAll c₀ (x .found) → chipFrom len c x samples ≡ carriedAll c₀ (seenFrom x samples .found)
   unfolding chipFrom
   chip-from c x [] whole e = e
   chip-from c x (s ∷ samples) whole e =
-      chip-from (chipStep len c x (levelsOf s)) (step x (levelsOf s)) samples (step-whole len c x (levelsOf s) whole) (step-found c x (levelsOf s) whole e)
+      chip-from (chipStep len c x (levelsOf s)) (step x (levelsOf s)) samples (step-whole c x (levelsOf s) whole) (step-found c x (levelsOf s) whole e)
 
   shown-length : (c : Chip) (x : Seen) (samples output : List ℕ) → length (shownFrom len c x samples output) ≡ length output
   unfolding shownFrom
@@ -98,7 +124,7 @@ module _ (len : ℕ) (c₀ : Chip) where
   shown-at c x (s ∷ samples) [] i lt room whole e = absurd (omega arith)
   shown-at c x (s ∷ samples) (o ∷ output) zero lt room whole e = rw (step-found c x (levelsOf s) whole e)
   shown-at c x (s ∷ samples) (o ∷ output) (suc i) lt room whole e =
-      shown-at (chipStep len c x (levelsOf s)) (step x (levelsOf s)) samples output i (omega arith) (omega arith) (step-whole len c x (levelsOf s) whole) (step-found c x (levelsOf s) whole e)
+      shown-at (chipStep len c x (levelsOf s)) (step x (levelsOf s)) samples output i (omega arith) (omega arith) (step-whole c x (levelsOf s) whole) (step-found c x (levelsOf s) whole e)
 
   -- beyond the samples the output stays
   shown-beyond : (c : Chip) (x : Seen) (samples output : List ℕ) (i : ℕ) → length samples ≤ i → getD (shownFrom len c x samples output) i 0 ≡ getD output i 0

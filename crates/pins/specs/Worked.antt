@@ -227,6 +227,10 @@ falls-held-later = runs plain (at 27 2 ∷ at 11 2 ∷ at 10 2 ∷ at 8 2 ∷ at
 
 -- ---- Select, clock and Hold in one sample
 
+-- Hold low as Select falls with the clock low: a hold at once, in which the rise of the clock in the same sample takes no bit
+abbrev pub falls-held-at-once : Case
+falls-held-at-once = runs plain (at 9 2 ∷ at 14 2 ∷ at 26 2 ∷ at 24 2 ∷ wren ∷ at 25 2 ∷ reads (row 0 0 0 0 0 0 1 0)) 0x02
+
 -- Select falls, then the clock rises, which takes a bit, then Hold falls, which is undone
 abbrev pub falls-at-once : Case
 falls-at-once = runs marked (at 10 2 ∷ at 26 2 ∷ bits (0 ∷ 0 ∷ 0 ∷ 0 ∷ 1 ∷ 0 ∷ 1 ∷ []) (2 ∷ 2 ∷ 2 ∷ 2 ∷ 2 ∷ 2 ∷ 2 ∷ []) ∷ bits zeros (row 1 0 0 0 0 1 0 0) ∷ at 25 2 ∷ []) 0x84
@@ -242,6 +246,14 @@ rises-with-clock = runs plain (wren ∷ at 24 2 ∷ at 27 2 ∷ at 25 2 ∷ read
 -- the clock falls, then Hold: the output changes, and the hold starts at once
 abbrev pub clock-with-hold : Case
 clock-with-hold = runs marked (half-read (at 8 2 ∷ at 24 1 ∷ other-half)) 0x84
+
+-- the clock rises, which takes a bit, then Hold falls, which waits
+abbrev pub clock-before-hold : Case
+clock-before-hold = runs marked (half-read (at 24 1 ∷ at 10 1 ∷ other-half)) 0x84
+
+-- the clock rises in a hold, which takes no bit, then Hold rises, which waits
+abbrev pub clock-before-rise : Case
+clock-before-rise = runs marked (half-read (at 24 1 ∷ at 8 2 ∷ at 26 2 ∷ at 24 1 ∷ other-half)) 0x84
 
 -- ---- answers
 
@@ -268,4 +280,4 @@ no-samples = record { device = plain; bytes = 4096; run = []; room = 0; answer =
 unfoldable pub cases : List Case
 cases =
     status-read ∷ enabled ∷ in-order ∷ programmed ∷ array-read ∷ further-read ∷ further-pulse ∷ unfinished ∷ first-high ∷ w-high ∷ w-low ∷ held ∷ held-later ∷ fall-undone ∷ rise-undone ∷ held-within ∷ thrown-away
-    ∷ still-held ∷ not-yet-held ∷ falls-held ∷ falls-held-later ∷ falls-at-once ∷ rises-at-once ∷ rises-with-clock ∷ clock-with-hold ∷ no-samples ∷ refusals
+    ∷ still-held ∷ not-yet-held ∷ falls-held ∷ falls-held-later ∷ falls-held-at-once ∷ falls-at-once ∷ rises-at-once ∷ rises-with-clock ∷ clock-with-hold ∷ clock-before-hold ∷ clock-before-rise ∷ no-samples ∷ refusals
