@@ -31,7 +31,7 @@ fn pick(test: bool, a: bool, b: bool) -> bool
 
 impl Levels {
     // Bit 0 Chip Select, 1 clock, 2 data in, 3 W, 4 Hold.
-    pub fn of(sample: u8) -> Self
+    pub(crate) fn of(sample: u8) -> Self
         ensures { λ r. ⌜ r ≡ levelsOf sample ⌝ }
     {
         Levels {
@@ -46,7 +46,7 @@ impl Levels {
 
 impl Pins {
     // Before the first sample.
-    pub fn rest() -> Self
+    pub(crate) fn rest() -> Self
         ensures { λ r. ⌜ r ≡ rest ⌝ }
     {
         Pins {
@@ -60,7 +60,7 @@ impl Pins {
     }
 
     // Chip Select is taken, with data and W.
-    pub fn on_select(self, levels: Levels) -> Self
+    pub(crate) fn on_select(self, levels: Levels) -> Self
         ensures { λ r. ⌜ r ≡ onSelect self levels ⌝ }
     {
         Pins {
@@ -106,35 +106,35 @@ impl Pins {
     }
 
     // One sample: Chip Select first, then the clock, then Hold.
-    pub fn next(self, levels: Levels) -> Self
+    pub(crate) fn next(self, levels: Levels) -> Self
         ensures { λ r. ⌜ r ≡ nextPins self levels ⌝ }
     {
         self.on_select(levels).on_clock(levels).on_hold(levels)
     }
 
     // Whether Chip Select changes.
-    pub fn changes(self, levels: Levels) -> bool
+    pub(crate) fn changes(self, levels: Levels) -> bool
         ensures { λ r. ⌜ r ≡ changes self levels ⌝ }
     {
         (self.select & !levels.select) | (!self.select & levels.select)
     }
 
     // Whether Chip Select rises outside a hold.
-    pub fn ends(self, levels: Levels) -> bool
+    pub(crate) fn ends(self, levels: Levels) -> bool
         ensures { λ r. ⌜ r ≡ ends self levels ⌝ }
     {
         !self.select & levels.select & !self.holding
     }
 
     // Whether a bit is taken: the clock rises with Chip Select low and no hold.
-    pub fn takes(self, levels: Levels) -> bool
+    pub(crate) fn takes(self, levels: Levels) -> bool
         ensures { λ r. ⌜ r ≡ takes self levels ⌝ }
     {
         !self.select & !self.holding & (!self.clock & levels.clock)
     }
 
     // Whether the output moves on: the clock falls with Chip Select low and no hold.
-    pub fn moves(self, levels: Levels) -> bool
+    pub(crate) fn moves(self, levels: Levels) -> bool
         ensures { λ r. ⌜ r ≡ moves self levels ⌝ }
     {
         !self.select & !self.holding & (self.clock & !levels.clock)
