@@ -1,12 +1,12 @@
 -- What a run answers, and that its promise admits one outcome only.
 -- Assumes nothing.
-use mathlib.Core.Path.{_≡_, refl, sym, ap, _∙_}
-use mathlib.Core.Bool.{Bool, true, false, cond, not, _||_, false≢true}
+use mathlib.Core.Path.{_≡_, refl, sym, _∙_}
+use mathlib.Core.Bool.{Bool, true, false, cond, _||_, false≢true}
 use mathlib.Core.List.{List, [], _∷_}
 use mathlib.Core.Logic.{_⊎_, inl, inr, ⊎-elim}
 use Prim.Native.Nat.{ℕ, zero, suc, _≤_, _<_}
 use native.Mathlib.Omega.{arith}
-use borrow.Author.Tests.{eqb-true, eq-eqb, ne-eqb, ltb-true, ltb-false, lt-ltb}
+use borrow.Author.Tests.{eqb-true, eq-eqb, ne-eqb, ltb-true, ltb-false, lt-ltb, not-false}
 use lib.Dec.{eqb, ltb}
 use lib.ListN.{length, take}
 use Rattle.slices.specs.Changed.{mapAt, window}
@@ -26,29 +26,25 @@ pub record Accepted (d : Device) (array : ℕ) (samples : List ℕ) (output : �
   pub short : tooLong samples ≡ false
   pub room : length samples ≤ output
 
-none-of-five : (a b c d e : Bool) → _≡_ {A = ℕ} (cond a 6 (cond b 2 (cond c 21 (cond d 22 (cond e 23 0))))) 0
-    → (a ≡ false) × (b ≡ false) × (c ≡ false) × (d ≡ false) × (e ≡ false)
-none-of-five true b c d e h = absurd (omega arith)
-none-of-five false true c d e h = absurd (omega arith)
-none-of-five false false true d e h = absurd (omega arith)
-none-of-five false false false true e h = absurd (omega arith)
-none-of-five false false false false true h = absurd (omega arith)
-none-of-five false false false false false h = (refl, refl, refl, refl, refl)
-
-not-false : (b : Bool) → not b ≡ false → b ≡ true
-not-false true e = refl
-not-false false e = sym e
+-- a cascade that gives 0: its first test fails, and the rest gives 0
+past : (t : Bool) (k rest : ℕ) → cond t (suc k) rest ≡ 0 → (t ≡ false) × (rest ≡ 0)
+past true k rest h = absurd (omega arith)
+past false k rest h = (refl, h)
 
 pub accepted : (d : Device) (array : ℕ) (samples : List ℕ) (output : ℕ) → runAnswer d array samples output ≡ 0 → Accepted d array samples output
 unfolding runAnswer
 accepted d array samples output h =
-    let p = none-of-five (not (sound d)) (not (eqb array (figuresOf (d .part) .bytes))) (oddSamples samples) (tooLong samples) (ltb output (length samples)) h in
+    let p6 = past _ 5 _ h in
+    let p2 = past _ 1 _ (p6 .1) in
+    let p21 = past _ 20 _ (p2 .1) in
+    let p22 = past _ 21 _ (p21 .1) in
+    let p23 = past _ 22 _ (p22 .1) in
     record {
-      sound = not-false (sound d) (p .0);
-      whole = eqb-true array (figuresOf (d .part) .bytes) (not-false (eqb array (figuresOf (d .part) .bytes)) (p .1));
-      even = p .2;
-      short = p .3;
-      room = ltb-false output (length samples) (p .4);
+      sound = not-false (sound d) (p6 .0);
+      whole = eqb-true array (figuresOf (d .part) .bytes) (not-false (eqb array (figuresOf (d .part) .bytes)) (p2 .0));
+      even = p21 .0;
+      short = p22 .0;
+      room = ltb-false output (length samples) (p23 .0);
     }
 
 -- 6, 2, 21, 22, 23, in that order: each is the answer where it applies and none before it does, whatever the rest

@@ -1,17 +1,17 @@
 -- What holds of every run: its transactions, its output, and that no output byte depends on a later sample.
 -- Assumes nothing.
 use mathlib.Core.Path.{_≡_, refl, sym, ap, _∙_}
-use mathlib.Core.Bool.{Bool, true, false, cond, not, _&&_, _||_, false≢true}
+use mathlib.Core.Bool.{Bool, true, false, not, _&&_}
 use mathlib.Core.List.{List, [], _∷_, _++_}
-use Prim.Native.Nat.{ℕ, zero, suc, _+_, _*_, _/_, _%_, _^_, _-_, _≤_, _<_}
-use native.Mathlib.Nat.{le-refl, mod-lt}
+use Prim.Native.Nat.{ℕ, zero, suc, _+_, _≤_, _<_}
+use native.Mathlib.Nat.{le-refl}
 use native.Mathlib.Omega.{arith}
 use borrow.Author.Tests.{ltb-false, le-ltb, eq-eqb}
-use lib.Dec.{eqb, ltb, lit≤, lit<}
+use lib.Dec.{ltb, lit≤, lit<}
 use lib.ListN.{length, getD, take, replicate, length-replicate}
-use lib.Seq.{take-length, take-take, length-take-le, take-at}
+use lib.Seq.{take-take}
 use Rattle.slices.specs.Changed.{mapAt, window}
-use Rattle.slices.proofs.Choices.{cond-ind, cond-case}
+use Rattle.slices.proofs.Choices.{cond-ind}
 use Rattle.slices.proofs.Maps.{getD-map, length-map}
 use Rattle.slices.proofs.Windows.{window-in, window-above}
 use Rattle.parts.specs.Parts.{figuresOf}
@@ -19,17 +19,15 @@ use Rattle.device.specs.declared.Device.{Device}
 use Rattle.device.specs.declared.Checked.{Checked}
 use Rattle.device.specs.Device.{sound, onZero}
 use Rattle.chip.specs.Answers.{refusal}
-use Rattle.chip.specs.Line.{Driven, silent, drives, driven}
 use Rattle.chip.specs.Outcome.{transacted}
 use Rattle.chip.proofs.Rules as rules
 use Rattle.chip.proofs.Lines.{LineIs, line-is-driven}
 use Rattle.pins.specs.declared.levels.Levels.{Levels}
-use Rattle.pins.specs.declared.levels.Pins.{Pins}
-use Rattle.pins.specs.Pins.{levelsOf, onSelect, onClock, onHold, nextPins, changes, ends, takes, moves, Shown, nothing, after, Transaction, Taking, anew, bitTaken, movedOn, clocked, nextTaking, nextFound, Seen, atRest, step, seenFrom, seen, tooLong}
-use Rattle.pins.specs.Run.{Chip, carriedOut, carriedAll, chipAfter, bitIn, bitShown, outputOf, outputAfter, outputAt, runAnswer, Ran}
-use Rattle.pins.proofs.Seen.{seen-ind, from-append, few-next, neither, unchanged, few-pulses, moves-takes}
-use Rattle.pins.proofs.Carried.{ending, no-end}
-use Rattle.pins.proofs.Runs.{Accepted, accepted}
+use Rattle.pins.specs.Pins.{levelsOf, Pins, ends, Transaction, anew, nextTaking, nextFound, Seen, atRest, step, seenFrom, seen, tooLong}
+use Rattle.pins.specs.Run.{Chip, carriedOut, carriedAll, chipAfter, outputAfter, outputAt, runAnswer, Ran}
+use Rattle.pins.proofs.Seen.{seen-ind, from-append, few-next, neither}
+use Rattle.pins.proofs.Carried.{ending}
+use Rattle.pins.proofs.Runs.{accepted}
 
 -- ---- a run that is not refused
 

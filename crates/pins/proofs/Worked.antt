@@ -1,13 +1,13 @@
 -- The worked runs hold: computed sample by sample, with the array's length handed over as a number.
 -- Assumes nothing.
-use mathlib.Core.Path.{_≡_, refl, sym, ap, _∙_, subst}
+use mathlib.Core.Path.{_≡_, refl, sym, ap, _∙_}
 use mathlib.Core.Bool.{Bool, true, false, cond, _&&_}
 use mathlib.Core.List.{List, [], _∷_, _++_, append-nil}
-use Prim.Native.Nat.{ℕ, zero, suc, _+_, _≤_, _<_}
+use Prim.Native.Nat.{ℕ, zero, suc, _≤_, _<_}
 use native.Mathlib.Numerals.{add-one}
 use native.Mathlib.Omega.{arith}
 use borrow.Author.Tests.{ltb-true, ltb-false}
-use lib.Dec.{T, eqb, ltb}
+use lib.Dec.{T, ltb}
 use lib.ListN.{length, getD, take, replicate, length-replicate}
 use Rattle.slices.specs.Changed.{mapAt, window, sumAt}
 use Rattle.slices.proofs.Maps.{map-is}
@@ -22,14 +22,12 @@ use Rattle.chip.specs.Table.{rowOf, addressOf}
 use Rattle.chip.specs.Answers.{refusal, inProtected, asNeeded, ignorance, decided, verdictOf}
 use Rattle.chip.specs.Line.{byRow, heard, heardRow, driven}
 use Rattle.chip.specs.Change.{none, cycleOf, touched, bpIn, turned}
-use Rattle.chip.specs.Outcome.{Outcome, outcomeOf, transacted}
+use Rattle.chip.specs.Outcome.{outcomeOf, transacted}
 use Rattle.chip.proofs.Rules.{array-length}
-use Rattle.chip.specs.Worked.{same}
 use Rattle.pins.specs.declared.levels.Levels.{Levels}
-use Rattle.pins.specs.declared.levels.Pins.{Pins}
-use Rattle.pins.specs.Pins.{levelsOf, rest, onSelect, onClock, onHold, nextPins, changes, ends, takes, moves, Transaction, Taking, anew, shifted, bitTaken, movedOn, clocked, nextTaking, nextFound, Seen, atRest, step, seenFrom, seen, tooLong, oddSamples}
+use Rattle.pins.specs.Pins.{levelsOf, Pins, rest, onSelect, onClock, onHold, nextPins, changes, ends, takes, moves, Transaction, Taking, anew, shifted, bitTaken, movedOn, clocked, nextTaking, nextFound, Seen, atRest, step, seenFrom, seen, tooLong, oddSamples}
 use Rattle.pins.specs.Run.{Chip, carriedOut, carriedAll, chipAfter, outputOf, outputAfter, outputAt, runAnswer, Ran}
-use Rattle.pins.specs.Worked.{Case, samplesIn, unwritten, written, asTold, AllAsTold, cases}
+use Rattle.pins.specs.Worked.{Case, samplesIn, unwritten, asTold, AllAsTold, cases}
 use Rattle.pins.proofs.Carried.{ending, all-append}
 
 -- ---- sample by sample
