@@ -1,32 +1,29 @@
--- The chip under the pins: a transaction carried out, and the line of the one under way.
+-- The chip under the pins: a transaction carried out, and the one under way.
 -- Assumes nothing.
 use mathlib.Core.Path.{_≡_, refl, sym, ap, _∙_}
 use mathlib.Core.Bool.{Bool, true, false, cond, not, _&&_, _||_, false≢true}
 use mathlib.Core.List.{List, [], _∷_, _++_}
 use Prim.Native.Nat.{ℕ, _+_, _≤_, _<_}
 use native.Mathlib.Nat.{le-refl}
-use native.Mathlib.Omega.{arith}
-use borrow.Author.Tests.{le-ltb, lt-ltb}
-use lib.Dec.{eqb, ltb, lit≤}
-use lib.ListN.{length, getD, take, replicate, length-append, length-replicate}
-use Rattle.slices.proofs.Choices.{cond-ind, cond-case}
+use native.Mathlib.Numerals.{add-one}
+use borrow.Author.Tests.{eq-eqb, eqb-true, le-ltb}
+use lib.Dec.{eqb, lit≤}
+use lib.ListN.{length, getD, take, set, replicate, length-append, length-replicate}
+use lib.Seq.{take-suc-set}
 use Rattle.device.specs.declared.Device.{Device}
-use Rattle.chip.specs.declared.line.During.{During}
 use Rattle.chip.specs.declared.answers.Verdict.{Verdict}
 use Rattle.chip.specs.declared.answers.Verdict.the-variants.{Refused, Ignored, Executed}
 use Rattle.chip.specs.Answers.{refusal, verdictOf}
 use Rattle.chip.specs.Line.{Driven, silent, drives, driven}
 use Rattle.chip.specs.During.{during}
-use Rattle.chip.specs.Outcome.{Outcome, outcomeOf, transacted}
+use Rattle.chip.specs.Outcome.{outcomeOf, transacted}
 use Rattle.chip.proofs.Lines.{driven-before, heard-laws}
 use Rattle.pins.specs.declared.levels.Levels.{Levels}
-use Rattle.pins.specs.declared.levels.Pins.{Pins}
-use Rattle.pins.specs.declared.bits.Bits.{Bits}
-use Rattle.pins.specs.declared.line.Line.{Line}
-use Rattle.pins.specs.Pins.{levelsOf, onSelect, changes, ends, takes, moves, Shown, nothing, after, Transaction, Taking, anew, shifted, bitTaken, movedOn, clocked, nextTaking, nextFound, Seen, step, seen}
-use Rattle.pins.specs.Run.{Chip, carriedOut, carriedAll, chipAfter, bitIn, bitShown, outputOf}
-use Rattle.pins.specs.Counted.{bitsOf, lineOf, noLine, bitNow, nextLine, showing, endedWith}
-use Rattle.pins.proofs.Seen.{seen-next, unchanged, moves-takes}
+use Rattle.pins.specs.declared.underway.Underway.{Underway}
+use Rattle.pins.specs.Pins.{levelsOf, Pins, changes, ends, takes, moves, Transaction, Taking, anew, shifted, bitTaken, movedOn, clocked, nextTaking, nextFound, Seen, step, seen}
+use Rattle.pins.specs.Run.{Chip, carriedOut, carriedAll, chipAfter, bitIn}
+use Rattle.pins.specs.Counted.{underwayOf, noneYet, bitNow, shownOn, stored, oneMore, Clocked, endedWith}
+use Rattle.pins.proofs.Seen.{seen-next, unchanged}
 
 -- ---- a transaction carried out
 
@@ -69,9 +66,9 @@ ended-is c p now t response room =
     let e = any-response (c .device) (c .array) (t .sent) (t .pulses) (now .w) response zeros room l in
     rw (e .0, e .1)
 
-all-append : (c : Chip) (ts : List Transaction) (t : Transaction) → carriedAll c (ts ++ (t ∷ [])) ≡ carriedOut (carriedAll c ts) t
-all-append c [] t = refl
-all-append c (x ∷ ts) t = all-append (carriedOut c x) ts t
+pub all-append : (c : Chip) (ts us : List Transaction) → carriedAll c (ts ++ us) ≡ carriedAll (carriedAll c ts) us
+all-append c [] us = refl
+all-append c (t ∷ ts) us = all-append (carriedOut c t) ts us
 
 -- the chip after one sample more
 pub chip-next : (d : Device) (array samples : List ℕ) (i : ℕ) → i < length samples
@@ -85,7 +82,7 @@ chip-next d array samples i h =
     go : (x : Seen) (now : Levels) (b : Bool)
         → carriedAll (record { device = d; array = array }) (cond b (x .found ++ (ending (x .taking) now ∷ [])) (x .found))
         ≡ cond b (carriedOut (carriedAll (record { device = d; array = array }) (x .found)) (ending (x .taking) now)) (carriedAll (record { device = d; array = array }) (x .found))
-    go x now true = all-append (record { device = d; array = array }) (x .found) (ending (x .taking) now)
+    go x now true = all-append (record { device = d; array = array }) (x .found) (ending (x .taking) now ∷ [])
     go x now false = refl
 
 ends-changes : (a b h : Bool) → a && not b || not a && b ≡ false → not a && b && h ≡ false
@@ -99,102 +96,62 @@ pub no-end : (p : Pins) (now : Levels) → changes p now ≡ false → ends p no
 unfolding changes ends
 no-end p now e = ends-changes (p .select) (now .select) (not (p .holding)) e
 
--- ---- the line
+-- else it goes by the clock
+pub by-clock : (p : Pins) (now : Levels) (t : Taking) → changes p now ≡ false → nextTaking p now t ≡ clocked p now t
+unfolding nextTaking clocked
+by-clock p now t e = let u = unchanged p now e in rw (e, u .0, u .1)
+
+-- ---- the transaction under way
 
 -- before the first whole byte nothing is driven
 pub driven-first : (d : Device) (array : List ℕ) → driven d array [] ≡ silent
 driven-first d array = driven-before d array [] 0 (lit≤ tt) (heard-laws d [] .coded)
 
-quiet : (c : Chip) (t : Taking) → t .sent ≡ [] → bitShown c (t .shown) ≡ 2 → lineOf c t ≡ noLine
-unfolding lineOf noLine
-quiet c t e f = rw (f, e, driven-first (c .device) (c .array))
-
-module _ (c : Chip) where
-  pub quiet-anew : lineOf c anew ≡ noLine
-  unfolding anew
-  quiet-anew = quiet c anew refl refl
-
-  quiet-bit : (bit : Bool) → lineOf c (bitTaken anew bit) ≡ noLine
-  unfolding anew bitTaken
-  quiet-bit bit = quiet c (bitTaken anew bit) refl refl
-
-  quiet-moved : lineOf c (movedOn anew) ≡ noLine
-  unfolding anew movedOn
-  quiet-moved = quiet c (movedOn anew) refl (rw (driven-first (c .device) (c .array)))
-
-  -- as Select changes the line is silent
-  pub quiet-clocked : (p : Pins) (now : Levels) → lineOf c (clocked p now anew) ≡ noLine
-  unfolding clocked
-  quiet-clocked p now =
-      cond-ind (λ (t : Taking). lineOf c t ≡ noLine) (takes p now) (quiet-bit (now .«data»)) (cond-ind (λ (t : Taking). lineOf c t ≡ noLine) (moves p now) quiet-moved quiet-anew)
+-- as Select changes there is none
+pub none-yet : (c : Chip) → noneYet ≡ underwayOf c anew
+unfolding underwayOf noneYet anew
+none-yet c = rw (driven-first (c .device) (c .array))
 
 bit-is : (x : Driven) (k : ℕ) → bitNow (during x .driven) (during x .byte) k ≡ bitIn x k
 unfolding bitNow
 bit-is silent k = refl
 bit-is (drives b) k = refl
 
--- as Select changes the transaction starts anew
-by-change : (c : Chip) (p : Pins) (now : Levels) (t : Taking) → changes p now ≡ true → lineOf c (nextTaking p now t) ≡ noLine
-unfolding nextTaking
-by-change c p now t e = rw e (quiet-clocked c (onSelect p now) now)
+moved-on : (c : Chip) (t : Taking) → shownOn (underwayOf c t) ≡ underwayOf c (movedOn t)
+unfolding shownOn underwayOf movedOn
+moved-on c t = rw (bit-is (driven (c .device) (c .array) (t .sent)) (t .pulses))
 
--- else it goes by the clock
-pub by-clock : (p : Pins) (now : Levels) (t : Taking) → changes p now ≡ false → nextTaking p now t ≡ clocked p now t
-unfolding nextTaking clocked
-by-clock p now t e = let u = unchanged p now e in rw (e, u .0, u .1)
+-- the eighth bit makes a byte
+pub byte-more : (p : Pins) (now : Levels) (t : Taking) → takes p now ≡ true → t .pulses ≡ 7 → length (clocked p now t .sent) ≡ length (t .sent) + 1
+unfolding clocked bitTaken
+byte-more p now t e f = rw (e, eq-eqb (t .pulses) 7 f, length-append (t .sent) (shifted (t .register) (now .«data») ∷ []))
 
-module _ (c : Chip) (p : Pins) (now : Levels) (t : Taking) (sent : List ℕ) where
-  -- the line where the output does not move on
-  abbrev asked : Line → Taking → Line
-  asked l u =
-      cond (ltb (length (t .sent)) (length (u .sent)))
-      (record { driven = during (driven (c .device) (c .array) (take (length (u .sent)) sent)) .driven; byte = during (driven (c .device) (c .array) (take (length (u .sent)) sent)) .byte; bit = l .bit })
-      l
+-- `sent` holds the bytes taken so far
+module _ (c : Chip) (t : Taking) (sent : List ℕ) (bytes : take (length (t .sent)) sent ≡ t .sent) where
+  -- one bit more, with the bytes as they are stored
+  abbrev BitMore : Bool → Type 0
+  BitMore bit = (oneMore (underwayOf c t) (c .device) (c .array) sent bit ≡ underwayOf c (bitTaken t bit)) × (take (length (bitTaken t bit .sent)) (stored sent (underwayOf c t) bit) ≡ bitTaken t bit .sent)
 
-  same-bytes : (u : Taking) → u .sent ≡ t .sent → u .shown ≡ t .shown → asked (lineOf c t) u ≡ lineOf c u
-  unfolding lineOf
-  same-bytes u e f = let z : length (t .sent) ≤ length (t .sent) = le-refl _ in rw (e, f, le-ltb (length (t .sent)) (length (t .sent)) z)
-
-  byte-more : (u : Taking) (x : ℕ) → u .sent ≡ t .sent ++ (x ∷ []) → u .shown ≡ t .shown → take (length (u .sent)) sent ≡ u .sent → asked (lineOf c t) u ≡ lineOf c u
-  unfolding lineOf
-  byte-more u x e f h =
-      let k : length (t .sent) < length (u .sent) = rw (e, length-append (t .sent) (x ∷ [])) (omega arith) in
-      rw (lt-ltb (length (t .sent)) (length (u .sent)) k, h, f)
-
-  bit-more : take (length (bitTaken t (now .«data») .sent)) sent ≡ bitTaken t (now .«data») .sent → asked (lineOf c t) (bitTaken t (now .«data»)) ≡ lineOf c (bitTaken t (now .«data»))
-  unfolding bitTaken
-  bit-more =
-      cond-ind (λ (u : Taking). take (length (u .sent)) sent ≡ u .sent → asked (lineOf c t) u ≡ lineOf c u) (eqb (t .pulses) 7)
-      (λ h. byte-more _ (shifted (t .register) (now .«data»)) refl refl h) (λ h. same-bytes _ refl refl)
-
-  moved-line : record { driven = lineOf c t .driven; byte = lineOf c t .byte; bit = bitNow (lineOf c t .driven) (lineOf c t .byte) (t .pulses) } ≡ lineOf c (movedOn t)
-  unfolding lineOf movedOn
-  moved-line = rw (bit-is (driven (c .device) (c .array) (t .sent)) (t .pulses))
-
-  -- the line as the clock falls, rises or stays
-  clock-line : take (length (clocked p now t .sent)) sent ≡ clocked p now t .sent
-      → cond (moves p now) (record { driven = lineOf c t .driven; byte = lineOf c t .byte; bit = bitNow (lineOf c t .driven) (lineOf c t .byte) (t .pulses) }) (asked (lineOf c t) (clocked p now t))
-      ≡ lineOf c (clocked p now t)
-  unfolding clocked
-  clock-line = go (moves p now) refl (takes p now) refl
+  bit-more : (bit : Bool) → (t .pulses ≡ 7 → length (t .sent) < length sent) → BitMore bit
+  unfolding oneMore stored underwayOf bitTaken
+  bit-more bit room = go (eqb (t .pulses) 7) refl
     where
-      go : (m : Bool) → moves p now ≡ m → (k : Bool) → takes p now ≡ k
-          → take (length (cond k (bitTaken t (now .«data»)) (cond m (movedOn t) t) .sent)) sent ≡ cond k (bitTaken t (now .«data»)) (cond m (movedOn t) t) .sent
-          → cond m (record { driven = lineOf c t .driven; byte = lineOf c t .byte; bit = bitNow (lineOf c t .driven) (lineOf c t .byte) (t .pulses) }) (asked (lineOf c t) (cond k (bitTaken t (now .«data»)) (cond m (movedOn t) t)))
-          ≡ lineOf c (cond k (bitTaken t (now .«data»)) (cond m (movedOn t) t))
-      go true m true k h = absurd (false≢true (sym (moves-takes p now m) ∙ k))
-      go true m false k h = moved-line
-      go false m true k h = bit-more h
-      go false m false k h = same-bytes t refl refl
+      go : (b : Bool) → eqb (t .pulses) 7 ≡ b → BitMore bit
+      go true e =
+          let n = length (t .sent) in
+          let r = shifted (t .register) bit in
+          let l : length (t .sent ++ (r ∷ [])) ≡ n + 1 = length-append (t .sent) (r ∷ []) in
+          let k : take (n + 1) (set sent n r) ≡ t .sent ++ (r ∷ []) = rw (add-one n, take-suc-set sent n r (room (eqb-true (t .pulses) 7 e)), bytes) in
+          rw e (rw (l, k), rw (l, k))
+      go false e = rw e (refl, bytes)
 
--- the line after one sample more, as the code finds it; `sent` are the bytes that the code has stored
-pub line-next : (c : Chip) (p : Pins) (now : Levels) (t : Taking) {l : Line} (sent : List ℕ) → (changes p now ≡ false → l ≡ lineOf c t) → take (length (nextTaking p now t .sent)) sent ≡ nextTaking p now t .sent
-    → nextLine l (c .device) (c .array) sent p (bitsOf t) (bitsOf (nextTaking p now t)) now ≡ lineOf c (nextTaking p now t)
-unfolding nextLine bitsOf
-line-next c p now t {l} sent same bytes = go (changes p now) refl
-  where
-    go : (b : Bool) → changes p now ≡ b
-        → cond b noLine (cond (moves p now) (record { driven = l .driven; byte = l .byte; bit = bitNow (l .driven) (l .byte) (t .pulses) }) (asked c p now t sent l (nextTaking p now t)))
-        ≡ lineOf c (nextTaking p now t)
-    go true e = sym (by-change c p now t e)
-    go false e = let h = by-clock p now t e in rw (same e, h) (clock-line c p now t sent (rw (← h) bytes))
+  -- the clock, with Select taken
+  pub clock-more : (p : Pins) (now : Levels) → (takes p now ≡ true → t .pulses ≡ 7 → length (t .sent) < length sent) → {u : Underway} {sent′ : List ℕ} → Clocked (underwayOf c t) (c .device) (c .array) sent p now u sent′
+      → (u ≡ underwayOf c (clocked p now t)) × (take (length (clocked p now t .sent)) sent′ ≡ clocked p now t .sent)
+  unfolding clocked movedOn
+  clock-more p now room {u} {sent′} q = go (takes p now) refl (moves p now) refl
+    where
+      go : (a : Bool) → takes p now ≡ a → (m : Bool) → moves p now ≡ m → (u ≡ underwayOf c (clocked p now t)) × (take (length (clocked p now t .sent)) sent′ ≡ clocked p now t .sent)
+      go true e m f = let b = bit-more (now .«data») (room e) in (q .under ∙ rw e (b .0), rw (q .bytes, e) (b .1))
+      go false e true f = (q .under ∙ rw (e, f) (moved-on c t), rw (q .bytes, e, f) bytes)
+      go false e false f = (q .under ∙ rw (e, f), rw (q .bytes, e, f) bytes)

@@ -5,3 +5,4 @@ pub mod Held
 pub mod Runs
 pub mod Theorems
 pub mod Output
+pub mod Worked

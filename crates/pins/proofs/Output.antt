@@ -1,38 +1,25 @@
 -- The output within a transaction: it changes as Select changes and as the clock falls, and shows what the chip drives.
 -- Assumes nothing.
-use mathlib.Core.Path.{_≡_, refl, sym, ap, _∙_}
-use mathlib.Core.Bool.{Bool, true, false, cond, not, _&&_, _||_}
+use mathlib.Core.Path.{_≡_, refl, ap, _∙_}
+use mathlib.Core.Bool.{Bool, true, false, cond, _||_}
 use mathlib.Core.List.{List, [], _∷_, _++_}
-use Prim.Native.Nat.{ℕ, _+_, _*_, _/_, _%_, _^_, _-_, _≤_, _<_}
-use native.Mathlib.Nat.{mod-lt, add-assoc}
+use Prim.Native.Nat.{ℕ, _/_, _%_, _^_, _-_, _≤_, _<_}
+use native.Mathlib.Nat.{mod-lt}
 use native.Mathlib.Omega.{arith}
-use borrow.Author.Tests.{eqb-true, eqb-false}
 use lib.Dec.{eqb, lit≤, lit<}
-use lib.ListN.{length, take, length-append}
+use lib.ListN.{length, take}
 use lib.Seq.{take-length}
-use Rattle.slices.proofs.Choices.{cond-ind, cond-case}
+use Rattle.slices.proofs.Choices.{cond-ind}
 use Rattle.device.specs.declared.Device.{Device}
 use Rattle.chip.specs.Line.{Driven, silent, drives, driven}
 use Rattle.pins.specs.declared.levels.Levels.{Levels}
-use Rattle.pins.specs.declared.levels.Pins.{Pins}
-use Rattle.pins.specs.Pins.{levelsOf, rest, onSelect, onClock, onHold, nextPins, changes, ends, takes, moves, Shown, nothing, after, Transaction, Taking, anew, shifted, bitTaken, movedOn, clocked, nextTaking, nextFound, Seen, atRest, step, seenFrom, seen}
-use Rattle.pins.specs.Run.{Chip, carriedAll, chipAfter, bitIn, bitShown, outputOf, outputAfter}
+use Rattle.pins.specs.Pins.{levelsOf, Pins, onSelect, onClock, onHold, nextPins, changes, takes, moves, Shown, nothing, after, Taking, anew, bitTaken, movedOn, clocked, nextTaking, nextFound, Seen, atRest, step, seenFrom, seen}
+use Rattle.pins.specs.Counted.{bitsTaken}
+use Rattle.pins.specs.Run.{Chip, chipAfter, bitIn, bitShown, outputOf, outputAfter}
 use Rattle.pins.proofs.Seen.{from-append, same-level, moves-takes, few-pulses}
 use Rattle.pins.proofs.Carried.{no-end, by-clock, driven-first}
 
 -- ---- the bits taken
-
--- eight for each whole byte, and the further pulses
-abbrev pub bitsTaken : Taking → ℕ
-bitsTaken t = 8 * length (t .sent) + t .pulses
-
--- each bit counts once
-pub one-taken : (t : Taking) (bit : Bool) → bitsTaken (bitTaken t bit) ≡ bitsTaken t + 1
-unfolding bitTaken
-one-taken t bit =
-    cond-case (λ (u : Taking). bitsTaken u ≡ bitsTaken t + 1) (eqb (t .pulses) 7)
-    (λ e. let k = eqb-true (t .pulses) 7 e in omega (arith, length-append (t .sent) (shifted (t .register) bit ∷ [])))
-    (λ e. omega arith)
 
 -- the first m / 8 bytes are the whole ones, and m % 8 are the further pulses
 whole-bytes : (t : Taking) → t .pulses < 8 → (take (bitsTaken t / 8) (t .sent) ≡ t .sent) × (bitsTaken t % 8 ≡ t .pulses)

@@ -3,20 +3,17 @@
 use mathlib.Core.Path.{_≡_, refl, sym, ap, _∙_}
 use mathlib.Core.Bool.{Bool, true, false, cond, not, _&&_, _||_, false≢true}
 use mathlib.Core.List.{List, [], _∷_, _++_}
-use mathlib.Core.Logic.{_⊎_, inl, inr}
 use Prim.Native.Nat.{ℕ, _+_, _≤_, _<_}
 use native.Mathlib.Numerals.{add-one}
 use native.Mathlib.Omega.{arith}
-use borrow.Author.Tests.{eqb-true, eqb-false, ltb-false, lt-ltb, le-ltb}
+use borrow.Author.Tests.{eqb-true, eqb-false, ltb-true, ltb-false, le-leb, lt-leb}
 use lib.Dec.{eqb, ltb, leb, lit<, lit≤}
-use lib.ListN.{length, getD, set, take, drop, length-append, take-append-drop}
-use lib.Seq.{take-suc, take-suc-set, drop-cons}
+use lib.ListN.{length, getD, take, drop, length-append, take-append-drop}
+use lib.Seq.{take-suc, drop-cons}
 use Rattle.slices.proofs.Choices.{cond-ind, cond-case}
 use Rattle.pins.specs.declared.levels.Levels.{Levels}
-use Rattle.pins.specs.declared.levels.Pins.{Pins}
-use Rattle.pins.specs.declared.bits.Bits.{Bits}
-use Rattle.pins.specs.Pins.{levelsOf, rest, onSelect, nextPins, changes, takes, moves, Shown, nothing, after, Taking, anew, shifted, bitTaken, movedOn, clocked, nextTaking, Seen, atRest, step, seenFrom, seen, tooLong, oddFrom}
-use Rattle.pins.specs.Counted.{bitsOf, noBits, oneMore, nextBits, stored}
+use Rattle.pins.specs.Pins.{levelsOf, Pins, rest, onSelect, onClock, onHold, nextPins, changes, takes, moves, Taking, anew, shifted, bitTaken, movedOn, clocked, nextTaking, Seen, atRest, step, seenFrom, seen, tooLong, oddFrom}
+use Rattle.pins.specs.Counted.{pinsOf, selected, heldAfter, bitsTaken, nextCount}
 
 -- ---- one sample more
 
@@ -65,102 +62,69 @@ pub moves-takes : (p : Pins) (now : Levels) → moves p now ≡ true → takes p
 unfolding moves takes
 moves-takes p now h = exclusive (not (p .select)) (not (p .holding)) (p .clock) (now .clock) h
 
--- ---- how the bytes grow
+-- ---- the pins as the code holds them
 
-abbrev Grown : Taking → Taking → Type 0
-Grown t u = (u .sent ≡ []) ⊎ ((u .sent ≡ t .sent) ⊎ (u .sent ≡ t .sent ++ (u .register ∷ [])))
+-- the sample 25: Select, W and Hold high, the others low
+pub at-rest : pinsOf (levelsOf 25) false ≡ rest
+unfolding pinsOf levelsOf rest
+at-rest = refl
 
-one-grown : (t : Taking) (bit : Bool) → Grown t (bitTaken t bit)
+pub select-is : (was : Levels) (holding : Bool) (now : Levels) {held : Bool} → held ≡ onSelect (pinsOf was holding) now .holding → selected was now held ≡ onSelect (pinsOf was holding) now
+unfolding selected onSelect pinsOf
+select-is was holding now e = rw e
+
+pub pins-next : (was : Levels) (holding : Bool) (now : Levels) {held : Bool} → held ≡ onSelect (pinsOf was holding) now .holding
+    → pinsOf now (heldAfter now held) ≡ nextPins (pinsOf was holding) now
+unfolding nextPins onHold onClock pinsOf heldAfter onSelect
+pins-next was holding now e = rw e (go (was .clock) (now .clock) (not (was .hold)) (not (now .hold)) (onSelect (pinsOf was holding) now .holding))
+  where
+    go : (a b x y h : Bool) → _≡_ {A = Pins} (record { select = now .select; clock = b; hold = now .hold; holding = cond b h y })
+        (record { select = now .select; clock = b; hold = now .hold; holding = cond b (cond (a && not b) x h) y })
+    go true true x y h = refl
+    go false true x y h = refl
+    go a false x y h = refl
+
+-- ---- the bits taken
+
+-- each bit counts once
+pub one-taken : (t : Taking) (bit : Bool) → bitsTaken (bitTaken t bit) ≡ bitsTaken t + 1
 unfolding bitTaken
-one-grown t bit = cond-ind (Grown t) (eqb (t .pulses) 7) (inr (inr refl)) (inr (inl refl))
+one-taken t bit =
+    cond-case (λ (u : Taking). bitsTaken u ≡ bitsTaken t + 1) (eqb (t .pulses) 7)
+    (λ e. let k = eqb-true (t .pulses) 7 e in omega (arith, length-append (t .sent) (shifted (t .register) bit ∷ [])))
+    (λ e. omega arith)
 
-none-grown : (bit : Bool) → bitTaken anew bit .sent ≡ []
-unfolding bitTaken anew
-none-grown bit = refl
+-- a Select change does not ask whether there is a hold
+pub changes-any : (was : Levels) (holding held : Bool) (now : Levels) → changes (pinsOf was holding) now ≡ changes (pinsOf was held) now
+unfolding changes pinsOf
+changes-any was holding held now = refl
 
--- as Select changes there are no bytes
-pub begins-empty : (p : Pins) (now : Levels) → clocked p now anew .sent ≡ []
-unfolding clocked movedOn anew
-begins-empty p now = cond-ind (λ (t : Taking). t .sent ≡ []) (takes p now) (none-grown (now .«data»)) (cond-ind (λ (t : Taking). t .sent ≡ []) (moves p now) refl refl)
+count-begun : (b : Bool) (t : Taking) → cond b 0 (bitsTaken t) ≡ bitsTaken (cond b anew t)
+unfolding anew
+count-begun true t = refl
+count-begun false t = refl
 
-clocked-grown : (p : Pins) (now : Levels) (t : Taking) → Grown t (clocked p now t)
-unfolding clocked movedOn
-clocked-grown p now t = cond-ind (Grown t) (takes p now) (one-grown t (now .«data»)) (cond-ind (Grown t) (moves p now) (inr (inl refl)) (inr (inl refl)))
+count-moved : (t : Taking) → bitsTaken t ≡ bitsTaken (movedOn t)
+unfolding movedOn
+count-moved t = refl
 
--- no bytes, the same bytes, or one more, which the register holds
-pub grown : (p : Pins) (now : Levels) (t : Taking) → Grown t (nextTaking p now t)
-unfolding nextTaking
-grown p now t = cond-ind (λ (u : Taking). Grown t (clocked (onSelect p now) now u)) (changes p now) (inl (begins-empty (onSelect p now) now)) (clocked-grown (onSelect p now) now t)
-
--- at most one byte more
-pub grows-by-one : (p : Pins) (now : Levels) (t : Taking) → length (nextTaking p now t .sent) ≤ length (t .sent) + 1
-grows-by-one p now t = go (nextTaking p now t) (grown p now t)
+pub count-next : (was : Levels) (holding : Bool) (now : Levels) (t : Taking) {held : Bool} → held ≡ onSelect (pinsOf was holding) now .holding
+    → nextCount (bitsTaken t) was now held ≡ bitsTaken (nextTaking (pinsOf was holding) now t)
+unfolding nextCount nextTaking clocked
+count-next was holding now t {held} e = rw (select-is was holding now e, changes-any was held holding now) (go (changes (pinsOf was holding) now) (takes (onSelect (pinsOf was holding) now) now) (moves (onSelect (pinsOf was holding) now) now))
   where
-    go : (u : Taking) → Grown t u → length (u .sent) ≤ length (t .sent) + 1
-    go u (inl e) = rw e (omega arith)
-    go u (inr (inl e)) = rw e (omega arith)
-    go u (inr (inr e)) = rw (e, length-append (t .sent) (u .register ∷ [])) (omega arith)
+    go : (a b m : Bool) → cond b (cond a 0 (bitsTaken t) + 1) (cond a 0 (bitsTaken t)) ≡ bitsTaken (cond b (bitTaken (cond a anew t) (now .«data»)) (cond m (movedOn (cond a anew t)) (cond a anew t)))
+    go a true m = rw (count-begun a t) (sym (one-taken (cond a anew t) (now .«data»)))
+    go a false true = count-begun a t ∙ count-moved (cond a anew t)
+    go a false false = count-begun a t
 
--- the bytes as the code stores them
-pub stored-are : (p : Pins) (now : Levels) (t : Taking) (sent : List ℕ) → take (length (t .sent)) sent ≡ t .sent → length (nextTaking p now t .sent) ≤ length sent
-    → take (length (nextTaking p now t .sent)) (stored sent (length (t .sent)) (bitsOf (nextTaking p now t))) ≡ nextTaking p now t .sent
-unfolding stored bitsOf
-stored-are p now t sent e = go (nextTaking p now t) (grown p now t)
+-- 65,537 whole bytes are 524,296 bits
+pub long-bits : (t : Taking) → t .pulses < 8 → leb 524296 (bitsTaken t) ≡ ltb 65536 (length (t .sent))
+long-bits t h = go (ltb 65536 (length (t .sent))) refl
   where
-    go : (u : Taking) → Grown t u → length (u .sent) ≤ length sent
-        → take (length (u .sent)) (cond (ltb (length (t .sent)) (length (u .sent))) (set sent (length (t .sent)) (u .register)) sent) ≡ u .sent
-    go u (inl q) h = rw q
-    go u (inr (inl q)) h = let z : length (t .sent) ≤ length (t .sent) = omega arith in rw (q, le-ltb (length (t .sent)) (length (t .sent)) z) e
-    go u (inr (inr q)) h =
-        let n = length (t .sent) in
-        let l : length (u .sent) ≡ n + 1 = rw (q, length-append (t .sent) (u .register ∷ [])) in
-        let z : n < n + 1 = omega arith in
-        rw (l, lt-ltb n (n + 1) z, add-one n, take-suc-set sent n (u .register) (omega arith), e, q)
-
--- ---- the numbers that the code counts
-
-one-more-is : (t : Taking) (bit : Bool) → oneMore (bitsOf t) bit ≡ bitsOf (bitTaken t bit)
-unfolding oneMore bitsOf bitTaken
-one-more-is t bit = go (eqb (t .pulses) 7)
-  where
-    go : (b : Bool)
-        → cond b (record { whole = length (t .sent) + 1; pulses = 0; register = shifted (t .register) bit }) (record { whole = length (t .sent); pulses = t .pulses + 1; register = shifted (t .register) bit })
-        ≡ bitsOf (cond b (record { sent = t .sent ++ (shifted (t .register) bit ∷ []); pulses = 0; register = shifted (t .register) bit; shown = t .shown }) (record { sent = t .sent; pulses = t .pulses + 1; register = shifted (t .register) bit; shown = t .shown }))
-    go true = rw (length-append (t .sent) (shifted (t .register) bit ∷ []))
-    go false = refl
-
-pub no-bits : noBits ≡ bitsOf anew
-unfolding noBits bitsOf anew
-no-bits = refl
-
-none-whole : noBits .whole ≤ 0
-unfolding noBits
-none-whole = lit≤ tt
-
-pub whole-is : (t : Taking) → bitsOf t .whole ≡ length (t .sent)
-unfolding bitsOf
-whole-is t = refl
-
-moved-bits : (t : Taking) → bitsOf t ≡ bitsOf (movedOn t)
-unfolding bitsOf movedOn
-moved-bits t = refl
-
-pub bits-next : (p : Pins) (now : Levels) (t : Taking) → nextBits (bitsOf t) p now ≡ bitsOf (nextTaking p now t)
-unfolding nextBits nextTaking clocked
-bits-next p now t = started (changes p now) ∙ go (takes (onSelect p now) now) (moves (onSelect p now) now) (cond (changes p now) anew t)
-  where
-    begun : (b : Bool) → cond b noBits (bitsOf t) ≡ bitsOf (cond b anew t)
-    begun true = no-bits
-    begun false = refl
-
-    started : (b : Bool) → cond (takes (onSelect p now) now) (oneMore (cond b noBits (bitsOf t)) (now .«data»)) (cond b noBits (bitsOf t))
-        ≡ cond (takes (onSelect p now) now) (oneMore (bitsOf (cond b anew t)) (now .«data»)) (bitsOf (cond b anew t))
-    started b = rw (begun b)
-
-    go : (a b : Bool) (u : Taking) → cond a (oneMore (bitsOf u) (now .«data»)) (bitsOf u) ≡ bitsOf (cond a (bitTaken u (now .«data»)) (cond b (movedOn u) u))
-    go true b u = one-more-is u (now .«data»)
-    go false true u = moved-bits u
-    go false false u = refl
+    go : (b : Bool) → ltb 65536 (length (t .sent)) ≡ b → leb 524296 (bitsTaken t) ≡ b
+    go true e = let k = ltb-true 65536 (length (t .sent)) e in le-leb 524296 (bitsTaken t) (omega arith)
+    go false e = let k = ltb-false 65536 (length (t .sent)) e in lt-leb 524296 (bitsTaken t) (omega arith)
 
 -- ---- what holds after any samples
 
@@ -173,33 +137,24 @@ few-clocked : (p : Pins) (now : Levels) (t : Taking) → t .pulses < 8 → clock
 unfolding clocked movedOn
 few-clocked p now t h = cond-ind (λ (u : Taking). u .pulses < 8) (takes p now) (few-bits t (now .«data») h) (cond-ind (λ (u : Taking). u .pulses < 8) (moves p now) h h)
 
+-- as Select changes there are none
+pub few-begun : (b : Bool) (t : Taking) → t .pulses < 8 → cond b anew t .pulses < 8
+unfolding anew
+few-begun b t h = cond-ind (λ (u : Taking). u .pulses < 8) b (lit< tt) h
+
 pub few-next : (p : Pins) (now : Levels) (t : Taking) → t .pulses < 8 → nextTaking p now t .pulses < 8
-unfolding nextTaking anew
-few-next p now t h = few-clocked (onSelect p now) now (cond (changes p now) anew t) (cond-ind (λ (u : Taking). u .pulses < 8) (changes p now) (lit< tt) h)
-
-shift-few : (r : ℕ) (bit : Bool) → shifted r bit < 256
-unfolding shifted
-shift-few r bit = cond-ind (λ (n : ℕ). n < 256) bit (omega arith) (omega arith)
-
-byte-clocked : (p : Pins) (now : Levels) (t : Taking) → t .register < 256 → clocked p now t .register < 256
-unfolding clocked movedOn bitTaken
-byte-clocked p now t h =
-    cond-ind (λ (u : Taking). u .register < 256) (takes p now)
-    (cond-ind (λ (u : Taking). u .register < 256) (eqb (t .pulses) 7) (shift-few (t .register) (now .«data»)) (shift-few (t .register) (now .«data»))) (cond-ind (λ (u : Taking). u .register < 256) (moves p now) h h)
-
-byte-next : (p : Pins) (now : Levels) (t : Taking) → t .register < 256 → nextTaking p now t .register < 256
-unfolding nextTaking anew
-byte-next p now t h = byte-clocked (onSelect p now) now (cond (changes p now) anew t) (cond-ind (λ (u : Taking). u .register < 256) (changes p now) (lit< tt) h)
-
--- the register holds a byte
-pub register-few : (samples : List ℕ) → seen samples .taking .register < 256
-unfolding atRest anew step
-register-few samples = seen-ind (λ (x : Seen). x .taking .register < 256) (lit< tt) (λ x now h. byte-next (x .pins) now (x .taking) h) samples
+unfolding nextTaking
+few-next p now t h = few-clocked (onSelect p now) now (cond (changes p now) anew t) (few-begun (changes p now) t h)
 
 -- fewer than eight further pulses
 pub few-pulses : (samples : List ℕ) → seen samples .taking .pulses < 8
 unfolding atRest anew step
 few-pulses samples = seen-ind (λ (x : Seen). x .taking .pulses < 8) (lit< tt) (λ x now h. few-next (x .pins) now (x .taking) h) samples
+
+-- the register holds a byte
+pub shift-few : (r : ℕ) (bit : Bool) → shifted r bit < 256
+unfolding shifted
+shift-few r bit = cond-ind (λ (n : ℕ). n < 256) bit (omega arith) (omega arith)
 
 pub neither : (a b : Bool) → a || b ≡ false → (a ≡ false) × (b ≡ false)
 neither true b e = absurd (false≢true (sym e))
@@ -223,32 +178,38 @@ pub odd-next : (odd : Bool) (samples : List ℕ) (i : ℕ) → i < length sample
 odd-next odd samples i h = rw (drop-cons samples i 0 h, add-one i)
 
 -- what the code holds after i samples while it looks for a transaction above 65,536 bytes
-pub record Counting (samples : List ℕ) (i : ℕ) (p : Pins) (b : Bits) (l : Bool) : Type 0 where
-  pub pins : p ≡ seen (take i samples) .pins
-  pub bits : b ≡ bitsOf (seen (take i samples) .taking)
+pub record Counting (samples : List ℕ) (i before : ℕ) (holding : Bool) (n : ℕ) (l : Bool) : Type 0 where
+  pub pins : pinsOf (levelsOf before) holding ≡ seen (take i samples) .pins
+  pub count : n ≡ bitsTaken (seen (take i samples) .taking)
   pub long : l ≡ seen (take i samples) .long
-  pub few : b .whole ≤ i
+  pub few : n ≤ i
 
-pub counting-first : (samples : List ℕ) → Counting samples 0 rest noBits false
-unfolding seen atRest
-counting-first samples = record { pins = refl; bits = no-bits; long = refl; few = none-whole }
+pub counting-first : (samples : List ℕ) → Counting samples 0 25 false 0 false
+unfolding seen atRest anew
+counting-first samples = record { pins = at-rest; count = refl; long = refl; few = lit≤ tt }
 
-pub counting-next : (samples : List ℕ) (i : ℕ) → i < length samples → {p : Pins} {b : Bits} {l : Bool} (now : Levels) → now ≡ levelsOf (getD samples i 0) → Counting samples i p b l
-    → {p′ : Pins} {b′ : Bits} → p′ ≡ nextPins p now → b′ ≡ nextBits b p now → Counting samples (i + 1) p′ b′ (l || ltb 65536 (b′ .whole))
+count-few : (n : ℕ) (was now : Levels) (held : Bool) → nextCount n was now held ≤ n + 1
+unfolding nextCount
+count-few n was now held = go (takes (selected was now held) now) (changes (pinsOf was held) now)
+  where
+    go : (a b : Bool) → cond a (cond b 0 n + 1) (cond b 0 n) ≤ n + 1
+    go true true = omega arith
+    go true false = omega arith
+    go false true = omega arith
+    go false false = omega arith
+
+pub counting-next : (samples : List ℕ) (i : ℕ) → i < length samples → {before : ℕ} {holding : Bool} {n : ℕ} {l : Bool} {was now : Levels} {held : Bool} {n′ : ℕ} {holding′ : Bool}
+    → was ≡ levelsOf before → now ≡ levelsOf (getD samples i 0) → held ≡ onSelect (pinsOf was holding) now .holding → n′ ≡ nextCount n was now held → holding′ ≡ heldAfter now held
+    → Counting samples i before holding n l → Counting samples (i + 1) (getD samples i 0) holding′ n′ (l || leb 524296 n′)
 unfolding step
-counting-next samples i h {p} {b} {l} now e k {p′} {b′} ep eb =
+counting-next samples i h {before} {holding} {n} {l} {was} {now} {held} {n′} {holding′} ew en eh ec es k =
     let x = seen (take i samples) in
-    let s : seen (take (i + 1) samples) ≡ step x now = seen-next samples i h ∙ ap (step x) (sym e) in
-    let bn : b′ ≡ bitsOf (nextTaking (x .pins) now (x .taking)) = eb ∙ (rw (k .pins, k .bits) (bits-next (x .pins) now (x .taking))) in
-    let w : b′ .whole ≡ length (nextTaking (x .pins) now (x .taking) .sent) = ap (λ (y : Bits). y .whole) bn ∙ whole-is (nextTaking (x .pins) now (x .taking)) in
-    let v : b .whole ≡ length (x .taking .sent) = ap (λ (y : Bits). y .whole) (k .bits) ∙ whole-is (x .taking) in
+    let p : pinsOf was holding ≡ x .pins = rw ew (k .pins) in
+    let s : seen (take (i + 1) samples) ≡ step x now = seen-next samples i h ∙ ap (step x) (sym en) in
+    let c : n′ ≡ bitsTaken (nextTaking (x .pins) now (x .taking)) = ec ∙ (rw (k .count, ← p) (count-next was holding now (x .taking) eh)) in
     record {
-      pins = ep ∙ rw (k .pins, s);
-      bits = bn ∙ rw s;
-      long = rw (s, w, k .long);
-      few = omega (arith, grows-by-one (x .pins) now (x .taking), k .few);
+      pins = rw (es, ← en, s, ← p) (pins-next was holding now eh);
+      count = rw s c;
+      long = rw (s, c, k .long, long-bits (nextTaking (x .pins) now (x .taking)) (few-next (x .pins) now (x .taking) (few-pulses (take i samples))));
+      few = omega (arith, count-few n was now held, k .few);
     }
-
-pub pulses-are : {samples : List ℕ} {i : ℕ} {p : Pins} {b : Bits} {l : Bool} → Counting samples i p b l → b .pulses ≡ seen (take i samples) .taking .pulses
-unfolding bitsOf
-pulses-are k = ap (λ (y : Bits). y .pulses) (k .bits)

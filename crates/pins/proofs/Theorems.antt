@@ -1,17 +1,17 @@
 -- What holds of every run: its transactions, its output, and that no output byte depends on a later sample.
 -- Assumes nothing.
 use mathlib.Core.Path.{_≡_, refl, sym, ap, _∙_}
-use mathlib.Core.Bool.{Bool, true, false, cond, not, _&&_, _||_, false≢true}
+use mathlib.Core.Bool.{Bool, true, false, not, _&&_}
 use mathlib.Core.List.{List, [], _∷_, _++_}
-use Prim.Native.Nat.{ℕ, zero, suc, _+_, _*_, _/_, _%_, _^_, _-_, _≤_, _<_}
-use native.Mathlib.Nat.{le-refl, mod-lt}
+use Prim.Native.Nat.{ℕ, zero, suc, _+_, _≤_, _<_}
+use native.Mathlib.Nat.{le-refl}
 use native.Mathlib.Omega.{arith}
 use borrow.Author.Tests.{ltb-false, le-ltb, eq-eqb}
-use lib.Dec.{eqb, ltb, lit≤, lit<}
+use lib.Dec.{ltb, lit≤, lit<}
 use lib.ListN.{length, getD, take, replicate, length-replicate}
-use lib.Seq.{take-length, take-take, length-take-le, take-at}
+use lib.Seq.{take-take}
 use Rattle.slices.specs.Changed.{mapAt, window}
-use Rattle.slices.proofs.Choices.{cond-ind, cond-case}
+use Rattle.slices.proofs.Choices.{cond-ind}
 use Rattle.slices.proofs.Maps.{getD-map, length-map}
 use Rattle.slices.proofs.Windows.{window-in, window-above}
 use Rattle.parts.specs.Parts.{figuresOf}
@@ -19,17 +19,15 @@ use Rattle.device.specs.declared.Device.{Device}
 use Rattle.device.specs.declared.Checked.{Checked}
 use Rattle.device.specs.Device.{sound, onZero}
 use Rattle.chip.specs.Answers.{refusal}
-use Rattle.chip.specs.Line.{Driven, silent, drives, driven}
 use Rattle.chip.specs.Outcome.{transacted}
 use Rattle.chip.proofs.Rules as rules
 use Rattle.chip.proofs.Lines.{LineIs, line-is-driven}
 use Rattle.pins.specs.declared.levels.Levels.{Levels}
-use Rattle.pins.specs.declared.levels.Pins.{Pins}
-use Rattle.pins.specs.Pins.{levelsOf, onSelect, onClock, onHold, nextPins, changes, ends, takes, moves, Shown, nothing, after, Transaction, Taking, anew, bitTaken, movedOn, clocked, nextTaking, nextFound, Seen, atRest, step, seenFrom, seen, tooLong}
-use Rattle.pins.specs.Run.{Chip, carriedOut, carriedAll, chipAfter, bitIn, bitShown, outputOf, outputAfter, outputAt, runAnswer, Ran}
-use Rattle.pins.proofs.Seen.{seen-ind, from-append, few-next, neither, unchanged, few-pulses, moves-takes}
-use Rattle.pins.proofs.Carried.{ending, no-end}
-use Rattle.pins.proofs.Runs.{Accepted, accepted}
+use Rattle.pins.specs.Pins.{levelsOf, Pins, ends, Transaction, anew, nextTaking, nextFound, Seen, atRest, step, seenFrom, seen, tooLong}
+use Rattle.pins.specs.Run.{Chip, carriedOut, carriedAll, chipAfter, outputAfter, outputAt, runAnswer, Ran}
+use Rattle.pins.proofs.Seen.{seen-ind, from-append, few-next, neither}
+use Rattle.pins.proofs.Carried.{ending}
+use Rattle.pins.proofs.Runs.{accepted}
 
 -- ---- a run that is not refused
 
@@ -195,21 +193,47 @@ no-effect d array samples more e =
     ap (λ (x : Seen). carriedAll (record { device = d; array = array }) (x .found)) (from-append atRest samples more)
     ∙ ap (λ (ts : List Transaction). carriedAll (record { device = d; array = array }) ts) (endless-found (seenFrom atRest samples) more e)
 
-held-ends : (a b : Bool) → a && b && false ≡ false
-held-ends true true = refl
-held-ends true false = refl
-held-ends false b = refl
+-- Select is low in each of these samples
+abbrev pub StaysLow : List ℕ → Type 0
+StaysLow more = (i : ℕ) → i < length more → levelsOf (getD more i 0) .select ≡ false
 
--- rising during a hold throws the transaction away
-pub thrown-away : (p : Pins) (now : Levels) → p .holding ≡ true → ends p now ≡ false
-unfolding ends
-thrown-away p now h = rw h (held-ends (not (p .select)) (now .select))
+-- wherever Select rises in `more`, which comes after `samples`, there is a hold before that sample
+abbrev pub RisesInHold : List ℕ → List ℕ → Type 0
+RisesInHold samples more =
+    (i : ℕ) → i < length more → seen (samples ++ take i more) .pins .select ≡ false → levelsOf (getD more i 0) .select ≡ true → seen (samples ++ take i more) .pins .holding ≡ true
 
--- with Select high nothing ends before it has fallen
-pub unfinished : (p : Pins) (now : Levels) → now .select ≡ false → ends p now ≡ false
+-- sample by sample nothing ends
+endless : (x : Seen) (more : List ℕ) → ((i : ℕ) → i < length more → ends (seenFrom x (take i more) .pins) (levelsOf (getD more i 0)) ≡ false) → Endless x more
+endless x [] h = tt
+endless x (s ∷ more) h = (h 0 (omega arith), endless (step x (levelsOf s)) more (λ i lt. h (suc i) (omega arith)))
+
+-- nothing ends while Select is low
+low-endless : (p : Pins) (now : Levels) → now .select ≡ false → ends p now ≡ false
 unfolding ends
-unfinished p now h = rw h (still (not (p .select)) (not (p .holding)))
+low-endless p now h = rw h (still (not (p .select)) (not (p .holding)))
   where
     still : (a b : Bool) → a && false && b ≡ false
     still true b = refl
     still false b = refl
+
+-- nothing ends where a rise of Select is one in a hold
+held-endless : (p : Pins) (now : Levels) → (p .select ≡ false → now .select ≡ true → p .holding ≡ true) → ends p now ≡ false
+unfolding ends
+held-endless p now h = go (p .select) (now .select) (p .holding) h
+  where
+    go : (a b h : Bool) → (a ≡ false → b ≡ true → h ≡ true) → not a && b && not h ≡ false
+    go true b h f = refl
+    go false false h f = refl
+    go false true h f = rw (f refl refl)
+
+-- a transaction unfinished at the run's end has no effect: Select stays low in `more`, whatever is shifted in there
+pub unfinished-has-no-effect : (d : Device) (array samples more : List ℕ) → StaysLow more → chipAfter d array (samples ++ more) ≡ chipAfter d array samples
+unfinished-has-no-effect d array samples more low =
+    no-effect d array samples more (endless (seen samples) more (λ i lt. low-endless (seenFrom (seen samples) (take i more) .pins) (levelsOf (getD more i 0)) (low i lt)))
+
+-- rising during a hold throws the transaction away: where Select rises in a hold only, `more` has no effect
+pub thrown-away-has-no-effect : (d : Device) (array samples more : List ℕ) → RisesInHold samples more → chipAfter d array (samples ++ more) ≡ chipAfter d array samples
+unfolding seen
+thrown-away-has-no-effect d array samples more held =
+    no-effect d array samples more
+    (endless (seen samples) more (λ i lt. held-endless (seenFrom (seen samples) (take i more) .pins) (levelsOf (getD more i 0)) (rw (from-append atRest samples (take i more)) at (held i lt))))

@@ -1,72 +1,96 @@
--- The transaction under way as the code holds it: numbers in place of the list of bytes, and the bit that shows.
+-- A run as the code holds it: the levels before and a flag for the pins, numbers in place of the list of bytes, the byte that is driven and the bit that shows.
 use mathlib.Core.Path.{_≡_}
-use mathlib.Core.Bool.{Bool, false, cond, _||_}
+use mathlib.Core.Bool.{Bool, false, cond, not}
 use mathlib.Core.List.{List}
-use Prim.Native.Nat.{ℕ, _+_, _-_, _/_, _%_, _^_}
-use lib.Dec.{eqb, ltb}
+use Prim.Native.Nat.{ℕ, _+_, _-_, _*_, _/_, _%_, _^_}
+use lib.Dec.{eqb}
 use lib.ListN.{length, take, set}
+use Rattle.slices.specs.Changed.{mapAt, window}
 use Rattle.device.specs.declared.Device.{Device}
-use Rattle.chip.specs.declared.line.During.{During}
 use Rattle.chip.specs.Line.{driven}
 use Rattle.chip.specs.During.{during}
 use Rattle.chip.specs.Outcome.{transacted}
 use Rattle.pins.specs.declared.levels.Levels.{Levels}
-use Rattle.pins.specs.declared.levels.Pins.{Pins}
-use Rattle.pins.specs.declared.bits.Bits.{Bits}
-use Rattle.pins.specs.declared.line.Line.{Line}
-use Rattle.pins.specs.Pins.{changes, takes, moves, ends, onSelect, shifted, Taking}
-use Rattle.slices.specs.Changed.{mapAt, window}
+use Rattle.pins.specs.declared.underway.Underway.{Underway}
+use Rattle.pins.specs.Pins.{Pins, changes, takes, moves, ends, shifted, Taking}
 use Rattle.pins.specs.Run.{Chip, bitShown, chipAfter, outputAt}
 
--- ---- the bits
+-- ---- the pins
 
--- the numbers of a transaction under way
-unfoldable pub bitsOf : Taking → Bits
-bitsOf t = record { whole = length (t .sent); pulses = t .pulses; register = t .register }
+-- the levels of the sample before, and whether there is a hold
+unfoldable pub pinsOf : Levels → Bool → Pins
+pinsOf was holding = record { select = was .select; clock = was .clock; hold = was .hold; holding = holding }
 
-unfoldable pub noBits : Bits
-noBits = record { whole = 0; pulses = 0; register = 0 }
+-- with Select taken
+unfoldable pub selected : Levels → Levels → Bool → Pins
+selected was now held = record { select = now .select; clock = was .clock; hold = was .hold; holding = held }
 
--- one bit more
-unfoldable pub oneMore : Bits → Bool → Bits
-oneMore b bit =
-    cond (eqb (b .pulses) 7) (record { whole = b .whole + 1; pulses = 0; register = shifted (b .register) bit })
-    (record { whole = b .whole; pulses = b .pulses + 1; register = shifted (b .register) bit })
+-- whether there is a hold after clock and Hold
+unfoldable pub heldAfter : Levels → Bool → Bool
+heldAfter now held = cond (now .clock) held (not (now .hold))
 
--- after one sample more; p are the pins before it
-unfoldable pub nextBits : Bits → Pins → Levels → Bits
-nextBits b p now = cond (takes (onSelect p now) now) (oneMore (cond (changes p now) noBits b) (now .«data»)) (cond (changes p now) noBits b)
+-- ---- the bits taken
 
--- the bytes with the one that has become whole
-unfoldable pub stored : List ℕ → ℕ → Bits → List ℕ
-stored sent n next = cond (ltb n (next .whole)) (set sent n (next .register)) sent
+-- eight for each whole byte, and the further pulses
+abbrev pub bitsTaken : Taking → ℕ
+bitsTaken t = 8 * length (t .sent) + t .pulses
 
--- ---- the line
+-- their number after one sample more
+unfoldable pub nextCount : ℕ → Levels → Levels → Bool → ℕ
+nextCount n was now held = cond (takes (selected was now held) now) (cond (changes (pinsOf was held) now) 0 n + 1) (cond (changes (pinsOf was held) now) 0 n)
 
--- the line of a transaction under way
-unfoldable pub lineOf : Chip → Taking → Line
-lineOf c t =
-    record { driven = during (driven (c .device) (c .array) (t .sent)) .driven; byte = during (driven (c .device) (c .array) (t .sent)) .byte; bit = bitShown c (t .shown) }
+-- ---- the transaction under way
 
-unfoldable pub noLine : Line
-noLine = record { driven = false; byte = 0; bit = 2 }
+unfoldable pub underwayOf : Chip → Taking → Underway
+underwayOf c t =
+    record {
+      whole = length (t .sent);
+      pulses = t .pulses;
+      register = t .register;
+      driven = during (driven (c .device) (c .array) (t .sent)) .driven;
+      byte = during (driven (c .device) (c .array) (t .sent)) .byte;
+      bit = bitShown c (t .shown);
+    }
+
+-- no bit taken, nothing driven
+unfoldable pub noneYet : Underway
+noneYet = record { whole = 0; pulses = 0; register = 0; driven = false; byte = 0; bit = 2 }
 
 -- bit 7 - k of a driven byte, 2 where nothing is driven
 unfoldable pub bitNow : Bool → ℕ → ℕ → ℕ
 bitNow on byte k = cond on (byte / 2 ^ (7 - k) % 2) 2
 
--- after one sample more: a new byte is asked for as one has become whole
-unfoldable pub nextLine : Line → Device → List ℕ → List ℕ → Pins → Bits → Bits → Levels → Line
-nextLine l d array sent p b next now =
-    cond (changes p now) noLine
-    (cond (moves p now) (record { driven = l .driven; byte = l .byte; bit = bitNow (l .driven) (l .byte) (b .pulses) })
-    (cond (ltb (b .whole) (next .whole))
-    (record { driven = during (driven d array (take (next .whole) sent)) .driven; byte = during (driven d array (take (next .whole) sent)) .byte; bit = l .bit })
-    l))
+-- the output moves on
+unfoldable pub shownOn : Underway → Underway
+shownOn u = record { whole = u .whole; pulses = u .pulses; register = u .register; driven = u .driven; byte = u .byte; bit = bitNow (u .driven) (u .byte) (u .pulses) }
 
--- the output
-unfoldable pub showing : Line → Pins → ℕ
-showing l p = cond (p .select || p .holding) 2 (l .bit)
+-- the bytes with one bit more: the eighth makes a whole byte, which is stored
+unfoldable pub stored : List ℕ → Underway → Bool → List ℕ
+stored sent u bit = cond (eqb (u .pulses) 7) (set sent (u .whole) (shifted (u .register) bit)) sent
+
+-- one bit more: the eighth asks for the next byte to drive
+unfoldable pub oneMore : Underway → Device → List ℕ → List ℕ → Bool → Underway
+oneMore u d array sent bit =
+    cond (eqb (u .pulses) 7)
+    (record {
+      whole = u .whole + 1;
+      pulses = 0;
+      register = shifted (u .register) bit;
+      driven = during (driven d array (take (u .whole + 1) (set sent (u .whole) (shifted (u .register) bit)))) .driven;
+      byte = during (driven d array (take (u .whole + 1) (set sent (u .whole) (shifted (u .register) bit)))) .byte;
+      bit = u .bit;
+    })
+    (record { whole = u .whole; pulses = u .pulses + 1; register = shifted (u .register) bit; driven = u .driven; byte = u .byte; bit = u .bit })
+
+-- what taking a bit promises
+pub record Taken (u : Underway) (d : Device) (array sent : List ℕ) (bit : Bool) (u′ : Underway) (sent′ : List ℕ) : Type 0 where
+  pub under : u′ ≡ oneMore u d array sent bit
+  pub bytes : sent′ ≡ stored sent u bit
+
+-- what the clock promises, with Select taken
+pub record Clocked (u : Underway) (d : Device) (array sent : List ℕ) (p : Pins) (now : Levels) (u′ : Underway) (sent′ : List ℕ) : Type 0 where
+  pub under : u′ ≡ cond (takes p now) (oneMore u d array sent (now .«data»)) (cond (moves p now) (shownOn u) u)
+  pub bytes : sent′ ≡ cond (takes p now) (stored sent u (now .«data»)) sent
 
 -- ---- the chip
 

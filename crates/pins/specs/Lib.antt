@@ -2,3 +2,4 @@
 pub mod Pins
 pub mod Run
 pub mod Counted
+pub mod Worked

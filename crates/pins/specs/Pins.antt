@@ -5,7 +5,6 @@ use Prim.Native.Nat.{ℕ, _+_, _*_, _/_, _%_}
 use lib.Dec.{eqb, leb, ltb}
 use lib.ListN.{length}
 use Rattle.pins.specs.declared.levels.Levels.{Levels}
-use Rattle.pins.specs.declared.levels.Pins.{Pins}
 
 -- ---- the levels
 
@@ -14,22 +13,29 @@ unfoldable pub levelsOf : ℕ → Levels
 levelsOf s =
     record { select = eqb (s % 2) 1; clock = eqb (s / 2 % 2) 1; «data» = eqb (s / 4 % 2) 1; w = eqb (s / 8 % 2) 1; hold = eqb (s / 16 % 2) 1 }
 
--- before the first sample Select, W and Hold are high, the others low
-unfoldable pub rest : Pins
-rest = record { select = true; clock = false; «data» = false; w = true; hold = true; holding = false }
+-- the pins that are kept from sample to sample, each as its level, and whether there is a hold; data and W are read in the sample alone
+pub record Pins : Type 0 where
+  pub select : Bool
+  pub clock : Bool
+  pub hold : Bool
+  pub holding : Bool
 
--- a Select change is taken first, and data and W are those of this sample: Hold low as Select falls counts as a fall then, so with the clock low there is a hold at once
+-- before the first sample Select and Hold are high, the clock low
+unfoldable pub rest : Pins
+rest = record { select = true; clock = false; hold = true; holding = false }
+
+-- a Select change is taken first: Hold low as Select falls counts as a fall then, so with the clock low there is a hold at once
 unfoldable pub onSelect : Pins → Levels → Pins
 onSelect p now =
-    record { select = now .select; clock = p .clock; «data» = now .«data»; w = now .w; hold = p .hold; holding = cond (p .select && not (now .select)) (not (p .hold) && not (p .clock)) (p .holding) }
+    record { select = now .select; clock = p .clock; hold = p .hold; holding = cond (p .select && not (now .select)) (not (p .hold) && not (p .clock)) (p .holding) }
 
 -- then the clock: as it goes low, a hold starts if Hold is low, and ends if it is high
 unfoldable pub onClock : Pins → Levels → Pins
-onClock p now = record { select = p .select; clock = now .clock; «data» = p .«data»; w = p .w; hold = p .hold; holding = cond (p .clock && not (now .clock)) (not (p .hold)) (p .holding) }
+onClock p now = record { select = p .select; clock = now .clock; hold = p .hold; holding = cond (p .clock && not (now .clock)) (not (p .hold)) (p .holding) }
 
 -- then Hold: with the clock low its fall starts a hold and its rise ends it, with the clock high either waits
 unfoldable pub onHold : Pins → Levels → Pins
-onHold p now = record { select = p .select; clock = p .clock; «data» = p .«data»; w = p .w; hold = now .hold; holding = cond (p .clock) (p .holding) (not (now .hold)) }
+onHold p now = record { select = p .select; clock = p .clock; hold = now .hold; holding = cond (p .clock) (p .holding) (not (now .hold)) }
 
 -- the pins after one sample more
 unfoldable pub nextPins : Pins → Levels → Pins

@@ -1,7 +1,8 @@
-// The pins: their levels in a sample, and from one sample to the next.
+// The pins: their levels in a sample, and what happens from one sample to the next.
 ghost use mathlib.Core.Path.{_≡_};
-ghost use mathlib.Core.Bool.{cond};
-ghost use Rattle.pins.specs.Pins.{levelsOf, rest, onSelect, onClock, onHold, nextPins, changes, takes, moves, ends};
+ghost use mathlib.Core.Bool.{Bool};
+ghost use Rattle.pins.specs.Pins.{levelsOf, onSelect, changes, takes, moves, ends};
+ghost use Rattle.pins.specs.Counted.{pinsOf, selected, heldAfter};
 
 // The five levels of a sample.
 pub struct Levels {
@@ -12,26 +13,10 @@ pub struct Levels {
     pub hold: bool,
 }
 
-// The five pins, each as its level, and whether there is a hold.
-pub struct Pins {
-    pub select: bool,
-    pub clock: bool,
-    pub data: bool,
-    pub w: bool,
-    pub hold: bool,
-    pub holding: bool,
-}
-
-// The first level where a test holds, else the second.
-fn pick(test: bool, a: bool, b: bool) -> bool
-    ensures { λ r. ⌜ r ≡ cond test a b ⌝ }
-{
-    if test { a } else { b }
-}
-
+// `self` are the levels in the sample before, `now` those in this one; `holding` is whether there is a hold, `held` the same with Chip Select taken.
 impl Levels {
     // Bit 0 Chip Select, 1 clock, 2 data in, 3 W, 4 Hold.
-    pub fn of(sample: u8) -> Self
+    pub(crate) fn of(sample: u8) -> Self
         ensures { λ r. ⌜ r ≡ levelsOf sample ⌝ }
     {
         Levels {
@@ -42,101 +27,49 @@ impl Levels {
             hold: sample / 16 % 2 == 1,
         }
     }
-}
-
-impl Pins {
-    // Before the first sample.
-    pub fn rest() -> Self
-        ensures { λ r. ⌜ r ≡ rest ⌝ }
-    {
-        Pins {
-            select: true,
-            clock: false,
-            data: false,
-            w: true,
-            hold: true,
-            holding: false,
-        }
-    }
-
-    // Chip Select is taken, with data and W.
-    pub fn on_select(self, levels: Levels) -> Self
-        ensures { λ r. ⌜ r ≡ onSelect self levels ⌝ }
-    {
-        Pins {
-            select: levels.select,
-            clock: self.clock,
-            data: levels.data,
-            w: levels.w,
-            hold: self.hold,
-            holding: pick(
-                self.select & !levels.select,
-                !self.hold & !self.clock,
-                self.holding,
-            ),
-        }
-    }
-
-    // The clock is taken.
-    fn on_clock(self, levels: Levels) -> Self
-        ensures { λ r. ⌜ r ≡ onClock self levels ⌝ }
-    {
-        Pins {
-            select: self.select,
-            clock: levels.clock,
-            data: self.data,
-            w: self.w,
-            hold: self.hold,
-            holding: pick(self.clock & !levels.clock, !self.hold, self.holding),
-        }
-    }
-
-    // Hold is taken.
-    fn on_hold(self, levels: Levels) -> Self
-        ensures { λ r. ⌜ r ≡ onHold self levels ⌝ }
-    {
-        Pins {
-            select: self.select,
-            clock: self.clock,
-            data: self.data,
-            w: self.w,
-            hold: levels.hold,
-            holding: pick(self.clock, self.holding, !levels.hold),
-        }
-    }
-
-    // One sample: Chip Select first, then the clock, then Hold.
-    pub fn next(self, levels: Levels) -> Self
-        ensures { λ r. ⌜ r ≡ nextPins self levels ⌝ }
-    {
-        self.on_select(levels).on_clock(levels).on_hold(levels)
-    }
 
     // Whether Chip Select changes.
-    pub fn changes(self, levels: Levels) -> bool
-        ensures { λ r. ⌜ r ≡ changes self levels ⌝ }
+    pub(crate) fn changes(self, now: Levels) -> bool
+        ensures { λ r. ⌜ ((holding : Bool) → r ≡ changes (pinsOf self holding) now) ⌝ }
     {
-        (self.select & !levels.select) | (!self.select & levels.select)
+        (self.select & !now.select) | (!self.select & now.select)
     }
 
     // Whether Chip Select rises outside a hold.
-    pub fn ends(self, levels: Levels) -> bool
-        ensures { λ r. ⌜ r ≡ ends self levels ⌝ }
+    pub(crate) fn ends(self, now: Levels, holding: bool) -> bool
+        ensures { λ r. ⌜ r ≡ ends (pinsOf self holding) now ⌝ }
     {
-        !self.select & levels.select & !self.holding
+        !self.select & now.select & !holding
+    }
+
+    // Whether there is a hold with Chip Select taken.
+    pub(crate) fn on_select(self, now: Levels, holding: bool) -> bool
+        ensures { λ r. ⌜ r ≡ onSelect (pinsOf self holding) now .holding ⌝ }
+    {
+        if self.select & !now.select {
+            return !self.hold & !self.clock;
+        }
+        holding
     }
 
     // Whether a bit is taken: the clock rises with Chip Select low and no hold.
-    pub fn takes(self, levels: Levels) -> bool
-        ensures { λ r. ⌜ r ≡ takes self levels ⌝ }
+    pub(crate) fn takes(self, now: Levels, held: bool) -> bool
+        ensures { λ r. ⌜ r ≡ takes (selected self now held) now ⌝ }
     {
-        !self.select & !self.holding & (!self.clock & levels.clock)
+        !now.select & !held & (!self.clock & now.clock)
     }
 
     // Whether the output moves on: the clock falls with Chip Select low and no hold.
-    pub fn moves(self, levels: Levels) -> bool
-        ensures { λ r. ⌜ r ≡ moves self levels ⌝ }
+    pub(crate) fn moves(self, now: Levels, held: bool) -> bool
+        ensures { λ r. ⌜ r ≡ moves (selected self now held) now ⌝ }
     {
-        !self.select & !self.holding & (self.clock & !levels.clock)
+        !now.select & !held & (self.clock & !now.clock)
+    }
+
+    // Whether there is a hold after clock and Hold: with the clock low Hold says it, with the clock high a change waits.
+    pub(crate) fn on_hold(self, held: bool) -> bool
+        ensures { λ r. ⌜ r ≡ heldAfter self held ⌝ }
+    {
+        if self.clock { held } else { !self.hold }
     }
 }

@@ -1,23 +1,26 @@
 // Raw pins: the transactions in a probe's samples carried out in order, and one output byte for each sample.
 ghost use mathlib.Core.Path.{_≡_};
-ghost use mathlib.Core.Bool.{false};
-ghost use Prim.Native.Nat.{_≤_};
+ghost use mathlib.Core.Bool.{false, cond};
+ghost use Prim.Native.Nat.{_≤_, _<_};
 ghost use lib.ListN.{length, take};
 ghost use Rattle.pins.specs.Pins.{oddSamples, tooLong};
 ghost use Rattle.pins.specs.Run.{runAnswer, Ran};
-ghost use Rattle.pins.specs.Counted.{endedWith, CarriedOut, CarriedAll};
+ghost use Rattle.pins.specs.Counted.{pinsOf, nextCount, endedWith, CarriedOut, CarriedAll};
 
-mod bits;
 mod levels;
-mod line;
+mod underway;
 
-use bits::Bits;
 use device::Checked;
 use device::Device;
 use levels::Levels;
-use levels::Pins;
-use line::Line;
 use parts::Figures;
+use underway::Underway;
+
+// Before the first sample Chip Select, W and Hold are high, the others low.
+const REST: u8 = 25;
+
+// The bits of 65,537 whole bytes.
+const LONG: usize = 524_296;
 
 // Whether some sample has one of the bits 5 to 7 set.
 fn odd_samples(samples: &[u8]) -> bool
@@ -32,19 +35,42 @@ fn odd_samples(samples: &[u8]) -> bool
     odd
 }
 
+// The count where Chip Select stays, 0 where it changes.
+fn kept(count: usize, changes: bool) -> usize
+    ensures { λ r. ⌜ r ≡ cond changes 0 count ⌝ }
+{
+    if changes { 0 } else { count }
+}
+
+// The bits of the transaction under way, after a sample; `was` are the levels before it, `held` is the hold with Chip Select taken.
+fn next_count(count: usize, was: Levels, levels: Levels, held: bool) -> usize
+    requires { ⌜ count < 18446744073709551615 ⌝ }
+    ensures { λ r. ⌜ r ≡ nextCount count was levels held ⌝ }
+{
+    let count = kept(count, was.changes(levels));
+    if was.takes(levels, held) {
+        return count + 1;
+    }
+    count
+}
+
 // Whether some transaction, thrown away and unfinished ones too, is above 65,536 bytes.
 fn too_long(samples: &[u8]) -> bool
     ensures { λ r. ⌜ r ≡ tooLong (now (samples .entry)) ⌝ }
 {
-    let mut pins = Pins::rest();
-    let mut bits = Bits::none();
+    let mut before = REST;
+    let mut holding = false;
+    let mut count = 0;
     let mut long = false;
     let mut i = 0;
     while i < samples.len() {
+        let was = Levels::of(before);
         let levels = Levels::of(samples[i]);
-        bits = bits.next(pins, levels);
-        pins = pins.next(levels);
-        long = long | (65_536 < bits.whole);
+        let held = was.on_select(levels, holding);
+        count = next_count(count, was, levels, held);
+        long = long | (LONG <= count);
+        holding = levels.on_hold(held);
+        before = samples[i];
         i += 1;
     }
     long
@@ -64,22 +90,23 @@ fn run_number(device: Device, array: usize, samples: &[u8], output: usize) -> u8
     slices::when(!device.sound(), 6, x)
 }
 
-// Carries out the transaction that ends with this sample, if one does.
+// Carries out the transaction under way, if it ends with this sample; `was` are the levels before it.
 fn carry_out(
     device: Device,
     array: &mut [u8],
-    pins: Pins,
-    bits: Bits,
+    was: Levels,
     levels: Levels,
+    holding: bool,
+    under: Underway,
     sent: &[u8],
     response: &mut [u8],
 ) -> Device
-    requires { ⌜ bits .whole ≤ length (now sent) ⌝ }
-    ensures { λ r. ⌜ CarriedOut (endedWith (record { device = device; array = now (array .entry) }) pins levels (take (bits .whole) (now (sent .entry))) (bits .pulses) (now (response .entry))) r (now (array .exit)) ⌝ }
+    requires { ⌜ under .whole ≤ length (now sent) ⌝ }
+    ensures { λ r. ⌜ CarriedOut (endedWith (record { device = device; array = now (array .entry) }) (pinsOf was holding) levels (take (under .whole) (now (sent .entry))) (under .pulses) (now (response .entry))) r (now (array .exit)) ⌝ }
 {
-    if pins.ends(levels) {
-        let n = bits.whole;
-        let done = chip::transact(device, array, &sent[..n], bits.pulses, levels.w, response);
+    if was.ends(levels, holding) {
+        let n = under.whole;
+        let done = chip::transact(device, array, &sent[..n], under.pulses, levels.w, response);
         return done.device;
     }
     device
@@ -98,19 +125,22 @@ fn carry_all(
     ensures { λ r. ⌜ CarriedAll device (now (array .entry)) (now (samples .entry)) (now (output .entry)) r (now (array .exit)) (now (output .exit)) ⌝ }
 {
     let mut device = device;
-    let mut pins = Pins::rest();
-    let mut bits = Bits::none();
-    let mut line = Line::none();
+    let mut before = REST;
+    let mut holding = false;
+    let mut under = Underway::none();
     let mut i = 0;
     while i < samples.len() {
+        let was = Levels::of(before);
         let levels = Levels::of(samples[i]);
-        device = carry_out(device, array, pins, bits, levels, sent, response);
-        let next = bits.next(pins, levels);
-        line::store(sent, bits.whole, next);
-        line = line.next(device, array, sent, pins, bits, next, levels);
-        bits = next;
-        pins = pins.next(levels);
-        output[i] = line.output(pins);
+        if was.changes(levels) {
+            device = carry_out(device, array, was, levels, holding, under, sent, response);
+            under = Underway::none();
+        }
+        let held = was.on_select(levels, holding);
+        under = under.clocked(device, array, sent, was, levels, held);
+        holding = levels.on_hold(held);
+        output[i] = slices::when(levels.select | holding, 2, under.bit);
+        before = samples[i];
         i += 1;
     }
     device

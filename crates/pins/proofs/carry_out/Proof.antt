@@ -2,7 +2,7 @@
 use mathlib.Core.Path.{_≡_, refl, sym, _∙_}
 use mathlib.Core.Bool.{true, false}
 use lib.Seq.{length-take-le}
-use Rattle.pins.specs.Counted.{endedWith}
+use Rattle.pins.specs.Counted.{pinsOf, endedWith}
 use Rattle.pins.specs.Pins.{ends}
 use borrow.Author.Needs.{needs}
 use Rattle.pins.proofs.carry_out.Statement.{statement}
@@ -30,7 +30,7 @@ unfolding endedWith
 returns c =
     let b = c .before .before .before .before .before .before .before .before .before in
     let a = b .before .before .before .before .before .args in
-    let t : ends (a .pins) (a .levels) ≡ true = sym (b .before .ends .ensures) ∙ b .if1 .taken in
+    let t : ends (pinsOf (a .was) (a .holding)) (a .levels) ≡ true = sym (b .before .ends .ensures) ∙ b .if1 .taken in
     let m = c .before .before .before .before .before .transact .ensures in
     rw t (record { device = m .device; memory = m .memory })
 
@@ -38,7 +38,7 @@ returns-2 : tie.Need-returns-2
 unfolding endedWith
 returns-2 c =
     let a = c .before .before .before .before .before .args in
-    let t : ends (a .pins) (a .levels) ≡ false = sym (c .before .ends .ensures) ∙ c .if1 .left in
+    let t : ends (pinsOf (a .was) (a .holding)) (a .levels) ≡ false = sym (c .before .ends .ensures) ∙ c .if1 .left in
     rw t (record { device = refl; memory = refl })
 
 pub carry-out-spec : {M : Type 1} → statement M

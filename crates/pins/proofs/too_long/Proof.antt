@@ -3,44 +3,43 @@ use mathlib.Core.Path.{ap, _∙_}
 use mathlib.Core.List.{List}
 use Prim.Native.Nat.{ℕ, _≤_, _-_}
 use native.Mathlib.Omega.{arith}
-use lib.ListN.{length, take}
+use lib.ListN.{length}
 use lib.Seq.{take-all}
 use Rattle.pins.specs.Pins.{seen, tooLong}
-use Rattle.pins.proofs.Seen.{few-pulses, pulses-are, Counting, counting-first, counting-next}
+use Rattle.pins.proofs.Seen.{Counting, counting-first, counting-next}
 use borrow.Author.Needs.{needs}
 use Rattle.pins.proofs.too_long.Statement.{statement}
 use Rattle.pins.proofs.too_long.Tie as tie
 
 abbrev Inv-loop : tie.InvT-loop
-Inv-loop samples pins₀ bits₀ long₀ i₀ pins bits long i = (i ≤ length samples) × Counting samples i pins bits long
+Inv-loop samples before₀ holding₀ count₀ long₀ i₀ before holding count long i = (i ≤ length samples) × Counting samples i before holding count long
 
 abbrev μ-loop : tie.MeasureT-loop
-μ-loop samples pins₀ bits₀ long₀ i₀ pins bits long i = length samples - i
-
-rest-requires : tie.Need-rest-requires Inv-loop μ-loop
-rest-requires c κs = search needs
-
-none-requires : tie.Need-none-requires Inv-loop μ-loop
-none-requires c κs = search needs
+μ-loop samples before₀ holding₀ count₀ long₀ i₀ before holding count long i = length samples - i
 
 loop-holds : tie.Need-loop-holds Inv-loop μ-loop
-loop-holds c = (search needs, rw (c .none .ensures, c .before .rest .ensures) (counting-first _))
-
-shared-slice-read-of : tie.Need-shared-slice-read-of Inv-loop μ-loop
-shared-slice-read-of c = search needs
+loop-holds c = (search needs, counting-first _)
 
 of-requires : tie.Need-of-requires Inv-loop μ-loop
 of-requires c κs = search needs
 
-next-requires : tie.Need-next-requires Inv-loop μ-loop
-next-requires c κs =
-    let l = c .before .before .before .loop in
-    let a = c .before .before .before .before .before .before .before .args in
-    let h : l .bits .whole ≤ l .i = l .inv .1 .few in
-    (omega arith, rw (pulses-are (l .inv .1)) (few-pulses (take (l .i) (a .samples .now))))
+shared-slice-read-of : tie.Need-shared-slice-read-of Inv-loop μ-loop
+shared-slice-read-of c = search needs
 
-next-requires-2 : tie.Need-next-requires-2 Inv-loop μ-loop
-next-requires-2 c κs = search needs
+of-requires-2 : tie.Need-of-requires-2 Inv-loop μ-loop
+of-requires-2 c κs = search needs
+
+on-select-requires : tie.Need-on-select-requires Inv-loop μ-loop
+on-select-requires c κs = search needs
+
+next-count-requires : tie.Need-next-count-requires Inv-loop μ-loop
+next-count-requires c κs = let h = c .before .before .before .before .before .loop .inv .1 .few in omega arith
+
+on-hold-requires : tie.Need-on-hold-requires Inv-loop μ-loop
+on-hold-requires c κs = search needs
+
+shared-slice-read-before : tie.Need-shared-slice-read-before Inv-loop μ-loop
+shared-slice-read-before c = search needs
 
 add-i : tie.Need-add-i Inv-loop μ-loop
 add-i c = search needs
@@ -50,15 +49,17 @@ loop-less c = search needs
 
 loop-again : tie.Need-loop-again Inv-loop μ-loop
 loop-again c =
-    let l = c .before .before .before .before .before .before .loop in
-    let t = c .before .before .before .before .before .loop-test .taken in
-    (search needs, counting-next _ (l .i) t _ (c .before .before .before .of .ensures) (l .inv .1) (c .before .next2 .ensures) (c .before .before .next .ensures))
+    let l = c .before .before .before .before .before .before .before .before .loop in
+    let t = c .before .before .before .before .before .before .before .loop-test .taken in (
+      search needs,
+      counting-next _ (l .i) t (c .before .before .before .before .before .before .of .ensures) (c .before .before .before .before .of2 .ensures) (c .before .before .before .on-select .ensures) (c .before .before .next-count .ensures) (c .before .on-hold .ensures) (l .inv .1),
+    )
 
 returns : tie.Need-returns Inv-loop μ-loop
 unfolding tooLong
 returns c =
     let l = c .before .loop in
-    let s = c .before .before .before .before .before .args .samples .now in
+    let s = c .before .before .before .args .samples .now in
     l .inv .1 .long ∙ ap (λ (xs : List ℕ). seen xs .long) (take-all (l .i) s (omega arith))
 
 pub too-long-spec : {M : Type 1} → statement M
@@ -67,13 +68,14 @@ too-long-spec =
     (tie.spec
     Inv-loop
     μ-loop
-    rest-requires
-    none-requires
     loop-holds
-    shared-slice-read-of
     of-requires
-    next-requires
-    next-requires-2
+    shared-slice-read-of
+    of-requires-2
+    on-select-requires
+    next-count-requires
+    on-hold-requires
+    shared-slice-read-before
     add-i
     loop-less
     loop-again

@@ -1,6 +1,6 @@
 -- `pins::levels::Levels::of` meets its contract.
-use Rattle.pins.specs.Pins.{levelsOf}
 use mathlib.Core.Path.{refl}
+use Rattle.pins.specs.Pins.{levelsOf}
 use Rattle.pins.proofs.levels.Levels.of.Statement.{statement}
 use Rattle.pins.proofs.levels.Levels.of.Tie as tie
 
