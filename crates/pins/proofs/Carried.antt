@@ -13,14 +13,15 @@ use lib.Seq.{take-suc-set}
 use Rattle.device.specs.declared.Device.{Device}
 use Rattle.chip.specs.declared.answers.Verdict.{Verdict}
 use Rattle.chip.specs.declared.answers.Verdict.the-variants.{Refused, Ignored, Executed}
-use Rattle.chip.specs.Answers.{refusal, verdictOf}
+use Rattle.chip.specs.Answers.{hostNumber, verdictOf}
 use Rattle.chip.specs.Line.{Driven, silent, drives, driven}
-use Rattle.chip.specs.During.{during}
+use Rattle.chip.specs.Line.{lineByte}
 use Rattle.chip.specs.Outcome.{outcomeOf, transacted}
 use Rattle.chip.proofs.Lines.{driven-before, heard-laws}
 use Rattle.pins.specs.declared.levels.Levels.{Levels}
 use Rattle.pins.specs.declared.underway.Underway.{Underway}
 use Rattle.pins.specs.Pins.{levelsOf, Pins, changes, ends, takes, moves, Transaction, Taking, anew, shifted, bitTaken, movedOn, clocked, nextTaking, nextFound, Seen, step, seen}
+use Rattle.chip.specs.Events.{sent}
 use Rattle.pins.specs.Run.{Chip, carriedOut, carriedAll, chipAfter, bitIn}
 use Rattle.pins.specs.Counted.{underwayOf, noneYet, bitNow, shownOn, stored, oneMore, Clocked, endedWith}
 use Rattle.pins.proofs.Seen.{seen-next, unchanged}
@@ -30,7 +31,7 @@ use Rattle.pins.proofs.Seen.{seen-next, unchanged}
 -- with room enough, record and array do not depend on the response
 module _ (d : Device) (array sent : List ℕ) (pulses : ℕ) (w : Bool) (response other : List ℕ) (room : length sent ≤ length response) (room′ : length sent ≤ length other) where
   same-verdict : verdictOf d (length array) sent pulses w (length response) ≡ verdictOf d (length array) sent pulses w (length other)
-  unfolding verdictOf refusal
+  unfolding verdictOf hostNumber
   same-verdict = rw (le-ltb (length response) (length sent) room, le-ltb (length other) (length sent) room′)
 
   same-device : (v : Verdict) → outcomeOf v d array sent response .device ≡ outcomeOf v d array sent other .device
@@ -59,7 +60,7 @@ ending t now = record { sent = t .sent; pulses = t .pulses; w = now .w }
 -- what the code carries out
 pub ended-is : (c : Chip) (p : Pins) (now : Levels) (t : Taking) (response : List ℕ) → length (t .sent) ≤ length response
     → endedWith c p now (t .sent) (t .pulses) response ≡ cond (ends p now) (carriedOut c (ending t now)) c
-unfolding endedWith carriedOut
+unfolding endedWith sent
 ended-is c p now t response room =
     let zeros : List ℕ = replicate (length (t .sent)) 0 in
     let l : length (t .sent) ≤ length zeros = rw (length-replicate {A = ℕ} (length (t .sent)) 0) (le-refl _) in
@@ -112,7 +113,7 @@ pub none-yet : (c : Chip) → noneYet ≡ underwayOf c anew
 unfolding underwayOf noneYet anew
 none-yet c = rw (driven-first (c .device) (c .array))
 
-bit-is : (x : Driven) (k : ℕ) → bitNow (during x .driven) (during x .byte) k ≡ bitIn x k
+bit-is : (x : Driven) (k : ℕ) → bitNow (lineByte x .driven) (lineByte x .byte) k ≡ bitIn x k
 unfolding bitNow
 bit-is silent k = refl
 bit-is (drives b) k = refl

@@ -1,19 +1,20 @@
 -- What a run answers, and that its promise admits one outcome only.
 -- Assumes nothing.
 use mathlib.Core.Path.{_≡_, refl, sym, _∙_}
-use mathlib.Core.Bool.{Bool, true, false, cond, _||_, false≢true}
+use mathlib.Core.Bool.{Bool, true, false, _||_, false≢true}
 use mathlib.Core.List.{List, [], _∷_}
 use mathlib.Core.Logic.{_⊎_, inl, inr, ⊎-elim}
 use Prim.Native.Nat.{ℕ, zero, suc, _≤_, _<_}
-use native.Mathlib.Omega.{arith}
 use borrow.Author.Tests.{eqb-true, eq-eqb, ne-eqb, ltb-true, ltb-false, lt-ltb, not-false}
 use lib.Dec.{eqb, ltb}
 use lib.ListN.{length, take}
 use Rattle.slices.specs.Changed.{mapAt, window}
+use Rattle.slices.proofs.Choices.{past}
 use Rattle.parts.specs.Parts.{figuresOf}
 use Rattle.device.specs.declared.Device.{Device}
 use Rattle.device.specs.declared.Checked.{Checked}
 use Rattle.device.specs.Device.{sound, onZero}
+use Rattle.device.proofs.Outcomes.{same-checked}
 use Rattle.pins.specs.Pins.{levelsOf, nextTaking, Seen, atRest, step, seenFrom, seen, oddSamples, tooLong}
 use Rattle.pins.specs.Run.{chipAfter, outputAt, runAnswer, Ran}
 use Rattle.pins.specs.Counted.{CarriedAll}
@@ -25,11 +26,6 @@ pub record Accepted (d : Device) (array : ℕ) (samples : List ℕ) (output : �
   pub even : oddSamples samples ≡ false
   pub short : tooLong samples ≡ false
   pub room : length samples ≤ output
-
--- a cascade that gives 0: its first test fails, and the rest gives 0
-past : (t : Bool) (k rest : ℕ) → cond t (suc k) rest ≡ 0 → (t ≡ false) × (rest ≡ 0)
-past true k rest h = absurd (omega arith)
-past false k rest h = (refl, h)
 
 pub accepted : (d : Device) (array : ℕ) (samples : List ℕ) (output : ℕ) → runAnswer d array samples output ≡ 0 → Accepted d array samples output
 unfolding runAnswer
@@ -112,9 +108,4 @@ carried d array samples output e a c = record { answer = a ∙ sym e; device = r
 -- the promise admits one outcome only
 pub one-outcome : {d : Device} {array samples output : List ℕ} {r s : Checked} {array′ array″ output′ output″ : List ℕ}
     → Ran d array samples output r array′ output′ → Ran d array samples output s array″ output″ → (r ≡ s) × (array′ ≡ array″) × (output′ ≡ output″)
-one-outcome {r = r} {s = s} p q = (same (p .answer ∙ sym (q .answer)) (p .device ∙ sym (q .device)), p .memory ∙ sym (q .memory), p .shown ∙ sym (q .shown))
-  where
-    same : r .answer ≡ s .answer → r .device ≡ s .device → r ≡ s
-    same e f =
-        let x : _≡_ {A = Checked} (record { answer = r .answer; device = r .device }) (record { answer = s .answer; device = s .device }) = rw (e, f) in
-        x
+one-outcome p q = (same-checked (p .answer ∙ sym (q .answer)) (p .device ∙ sym (q .device)), p .memory ∙ sym (q .memory), p .shown ∙ sym (q .shown))

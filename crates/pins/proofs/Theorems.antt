@@ -3,24 +3,24 @@
 use mathlib.Core.Path.{_≡_, refl, sym, ap, _∙_}
 use mathlib.Core.Bool.{Bool, true, false, not, _&&_}
 use mathlib.Core.List.{List, [], _∷_, _++_}
-use Prim.Native.Nat.{ℕ, zero, suc, _+_, _≤_, _<_}
+use Prim.Native.Nat.{ℕ, suc, _+_, _≤_, _<_}
 use native.Mathlib.Nat.{le-refl}
 use native.Mathlib.Omega.{arith}
-use borrow.Author.Tests.{ltb-false, le-ltb, eq-eqb}
+use borrow.Author.Tests.{ltb-false}
 use lib.Dec.{ltb, lit≤, lit<}
 use lib.ListN.{length, getD, take, replicate, length-replicate}
 use lib.Seq.{take-take}
 use Rattle.slices.specs.Changed.{mapAt, window}
-use Rattle.slices.proofs.Choices.{cond-ind}
+use Rattle.slices.proofs.Choices.{cond-ind, zero-ind}
 use Rattle.slices.proofs.Maps.{getD-map, length-map}
 use Rattle.slices.proofs.Windows.{window-in, window-above}
-use Rattle.parts.specs.Parts.{figuresOf}
 use Rattle.device.specs.declared.Device.{Device}
 use Rattle.device.specs.declared.Checked.{Checked}
-use Rattle.device.specs.Device.{sound, onZero}
-use Rattle.chip.specs.Answers.{refusal}
+use Rattle.device.specs.Device.{sound}
+use Rattle.chip.specs.Answers.{hostNumber}
 use Rattle.chip.specs.Outcome.{transacted}
-use Rattle.chip.proofs.Rules as rules
+use Rattle.chip.specs.Events.{Good, sends}
+use Rattle.chip.proofs.Events.{after-sound, after-length, after-good, no-refusal}
 use Rattle.chip.proofs.Lines.{LineIs, line-is-driven}
 use Rattle.pins.specs.declared.levels.Levels.{Levels}
 use Rattle.pins.specs.Pins.{levelsOf, Pins, ends, Transaction, anew, nextTaking, nextFound, Seen, atRest, step, seenFrom, seen, tooLong}
@@ -67,26 +67,11 @@ no-later {d} {array} {samples} {other} k p z q y l m e i lt =
 
 -- ---- the record stays sound, the array keeps its length
 
-zero-ind : {A : Type 0} (P : A → Type 0) (k : ℕ) {x y : A} → P x → P y → P (onZero k x y)
-zero-ind P zero p q = p
-zero-ind P (suc k) p q = q
-
--- a sound record, with the array of its part
-pub record Whole (c : Chip) : Type 0 where
-  pub sound : sound (c .device) ≡ true
-  pub length : length (c .array) ≡ figuresOf (c .device .part) .bytes
-
 one-sound : (c : Chip) (t : Transaction) → sound (c .device) ≡ true → sound (carriedOut c t .device) ≡ true
-unfolding carriedOut
-one-sound c t s = rules.stays-sound (c .device) (c .array) (t .sent) (t .pulses) (t .w) (replicate (length (t .sent)) 0) s
+one-sound c t s = after-sound (sends (t .sent) (t .pulses) (t .w)) c s
 
 one-length : (c : Chip) (t : Transaction) → length (carriedOut c t .array) ≡ length (c .array)
-unfolding carriedOut
-one-length c t = rules.array-length (c .device) (c .array) (t .sent) (t .pulses) (t .w) (replicate (length (t .sent)) 0)
-
-one-part : (c : Chip) (t : Transaction) → carriedOut c t .device .part ≡ c .device .part
-unfolding carriedOut
-one-part c t = rules.make-stays (c .device) (c .array) (t .sent) (t .pulses) (t .w) (replicate (length (t .sent)) 0) .part
+one-length c t = after-length (sends (t .sent) (t .pulses) (t .w)) c
 
 all-sound : (c : Chip) (ts : List Transaction) → sound (c .device) ≡ true → sound (carriedAll c ts .device) ≡ true
 all-sound c [] s = s
@@ -116,7 +101,7 @@ module _ {d : Device} {array samples output : List ℕ} {r : Checked} {array′ 
 
 -- a transaction that a chip takes: no number of the host side answers it, and byte i of its line is what is driven after its first i bytes
 pub record TakenBy (c : Chip) (t : Transaction) : Type 0 where
-  pub fine : refusal (c .device) (length (c .array)) (length (t .sent)) (t .pulses) (length (t .sent)) ≡ 0
+  pub fine : hostNumber (c .device) (length (c .array)) (length (t .sent)) (t .pulses) (length (t .sent)) ≡ 0
   pub line : (i : ℕ) → i < length (t .sent) → LineIs (c .device) (c .array) (t .sent) (transacted (c .device) (c .array) (t .sent) (t .pulses) (t .w) (replicate (length (t .sent)) 0)) i
 
 -- so of each, in order
@@ -148,31 +133,28 @@ found-fit samples h =
           (ltb-false 65536 (length (nextTaking (x .pins) now (x .taking) .sent)) (n .1), cond-ind AllFit (ends (x .pins) now) (fit-more (x .found) (ending (x .taking) now) (q .1) (q .0, p .0)) (q .1)),
     )) samples .1 h .1
 
-fine-one : (c : Chip) (t : Transaction) → Whole c → Fits t → refusal (c .device) (length (c .array)) (length (t .sent)) (t .pulses) (length (t .sent)) ≡ 0
-unfolding refusal
-fine-one c t w f =
-    let k : t .pulses ≤ 7 = omega (arith, f .1) in
-    rw (w .sound, eq-eqb (length (c .array)) (figuresOf (c .device .part) .bytes) (w .length), le-ltb 65536 (length (t .sent)) (f .0), le-ltb 7 (t .pulses) k, le-ltb (length (t .sent)) (length (t .sent)) (le-refl _))
+fine-one : (c : Chip) (t : Transaction) → Good c → Fits t → hostNumber (c .device) (length (c .array)) (length (t .sent)) (t .pulses) (length (t .sent)) ≡ 0
+fine-one c t w f = no-refusal (c .device) (length (c .array)) (length (t .sent)) (t .pulses) (length (t .sent)) (w .sound) (w .whole) (f .0) (omega (arith, f .1)) (le-refl _)
 
-taken-one : (c : Chip) (t : Transaction) → Whole c → Fits t → TakenBy c t
+taken-one : (c : Chip) (t : Transaction) → Good c → Fits t → TakenBy c t
 taken-one c t w f =
     let zeros : List ℕ = replicate (length (t .sent)) 0 in
     let l : length zeros ≡ length (t .sent) = length-replicate {A = ℕ} (length (t .sent)) 0 in
     let e = fine-one c t w f in
     record { fine = e; line = λ i lt. line-is-driven (c .device) (c .array) (t .sent) i lt (t .pulses) (t .w) zeros (rw l e) }
 
-all-taken : (c : Chip) (ts : List Transaction) → Whole c → AllFit ts → AllTaken c ts
+all-taken : (c : Chip) (ts : List Transaction) → Good c → AllFit ts → AllTaken c ts
 all-taken c [] w f = tt
 all-taken c (t ∷ ts) w f = (
   taken-one c t w (f .0),
-  all-taken (carriedOut c t) ts (record { sound = one-sound c t (w .sound); length = one-length c t ∙ (w .length ∙ ap (λ (p : ℕ). figuresOf p .bytes) (sym (one-part c t))) }) (f .1),
+  all-taken (carriedOut c t) ts (after-good (sends (t .sent) (t .pulses) (t .w)) c w) (f .1),
 )
 
 pub run-taken : {d : Device} {array samples output : List ℕ} {r : Checked} {array′ output′ : List ℕ} → Ran d array samples output r array′ output′ → r .answer ≡ 0
     → AllTaken (record { device = d; array = array }) (seen samples .found)
 run-taken {d} {array} {samples} {output} ran fine =
     let a = accepted d (length array) samples (length output) (sym (ran .answer) ∙ fine) in
-    all-taken (record { device = d; array = array }) (seen samples .found) (record { sound = a .sound; length = a .whole }) (found-fit samples (a .short))
+    all-taken (record { device = d; array = array }) (seen samples .found) (record { sound = a .sound; whole = a .whole }) (found-fit samples (a .short))
 
 -- ---- thrown away and unfinished
 

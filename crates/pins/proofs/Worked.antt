@@ -14,18 +14,20 @@ use Rattle.slices.proofs.Maps.{map-is}
 use Rattle.slices.proofs.Windows.{window-in, window-above}
 use Rattle.memory.specs.Memory as memory-is
 use Rattle.parts.specs.Parts.{figuresOf}
-use Rattle.parts.specs.Protected.{protectedOf, columnOf, uncelled}
+use Rattle.parts.specs.Protected.{protectedOf, columnOf, byRule}
 use Rattle.device.specs.declared.Device.{Device}
 use Rattle.device.specs.declared.Checked.{Checked}
 use Rattle.device.specs.Device.{sound, onZero, statusByte, moded, latched, settled, running, latchAt}
 use Rattle.chip.specs.Table.{rowOf, addressOf}
-use Rattle.chip.specs.Answers.{refusal, inProtected, asNeeded, ignorance, decided, verdictOf}
+use Rattle.chip.specs.Answers.{hostNumber, inProtected, asNeeded, chipNumber, decided, verdictOf}
 use Rattle.chip.specs.Line.{byRow, heard, heardRow, driven}
-use Rattle.chip.specs.Change.{none, cycleOf, touched, bpIn, turned}
+use Rattle.device.specs.Cycles.{noSlots, touched}
+use Rattle.chip.specs.Change.{cycleOf, changed, bpIn, turned}
 use Rattle.chip.specs.Outcome.{outcomeOf, transacted}
 use Rattle.chip.proofs.Rules.{array-length}
 use Rattle.pins.specs.declared.levels.Levels.{Levels}
 use Rattle.pins.specs.Pins.{levelsOf, Pins, rest, onSelect, onClock, onHold, nextPins, changes, ends, takes, moves, Transaction, Taking, anew, shifted, bitTaken, movedOn, clocked, nextTaking, nextFound, Seen, atRest, step, seenFrom, seen, tooLong, oddSamples}
+use Rattle.chip.specs.Events.{sent}
 use Rattle.pins.specs.Run.{Chip, carriedOut, carriedAll, chipAfter, outputOf, outputAfter, outputAt, runAnswer, Ran}
 use Rattle.pins.specs.Worked.{Case, samplesIn, unwritten, asTold, AllAsTold, cases}
 use Rattle.pins.proofs.Carried.{ending, all-append}
@@ -70,7 +72,7 @@ chipFrom len c x (s ∷ samples) =
 
 -- the length given is the array's
 one-is : (len : ℕ) (c : Chip) (t : Transaction) → length (c .array) ≡ len → (oneAt len c t ≡ carriedOut c t) × (length (oneAt len c t .array) ≡ len)
-unfolding carriedOut transacted
+unfolding sent transacted
 one-is len c t whole =
     let e : oneAt len c t ≡ carriedOut c t = rw (whole, length-replicate {A = ℕ} (length (t .sent)) 0) in
     (e, ap (λ (y : Chip). length (y .array)) e ∙ (array-length (c .device) (c .array) (t .sent) (t .pulses) (t .w) (replicate (length (t .sent)) 0) ∙ whole))
@@ -169,7 +171,7 @@ allCompute [] = true
 allCompute (k ∷ ks) = computes k && allCompute ks
 
 computed : T (allCompute cases)
-unfolding allCompute computes cases shownFrom chipFrom mapAt window sumAt memory-is.blank memory-is.latched memory-is.programmed memory-is.erased figuresOf protectedOf columnOf uncelled sound statusByte moded latched settled running latchAt rowOf addressOf refusal inProtected asNeeded ignorance decided verdictOf byRow heard heardRow driven none cycleOf touched bpIn turned outcomeOf levelsOf rest onSelect onClock onHold nextPins changes ends takes moves anew shifted bitTaken movedOn clocked nextTaking nextFound atRest step seen tooLong oddSamples outputOf runAnswer
+unfolding allCompute computes cases shownFrom chipFrom mapAt window sumAt memory-is.blank memory-is.filled memory-is.programmed memory-is.erased figuresOf protectedOf columnOf byRule sound statusByte moded latched settled running latchAt rowOf addressOf hostNumber inProtected asNeeded chipNumber decided verdictOf byRow heard heardRow driven noSlots cycleOf touched changed bpIn turned outcomeOf levelsOf rest onSelect onClock onHold nextPins changes ends takes moves anew shifted bitTaken movedOn clocked nextTaking nextFound atRest step seen tooLong oddSamples outputOf runAnswer
 computed = tt
 
 -- what the promise admits at a case is what was computed

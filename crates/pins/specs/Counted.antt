@@ -8,7 +8,7 @@ use lib.ListN.{length, take, set}
 use Rattle.slices.specs.Changed.{mapAt, window}
 use Rattle.device.specs.declared.Device.{Device}
 use Rattle.chip.specs.Line.{driven}
-use Rattle.chip.specs.During.{during}
+use Rattle.chip.specs.Line.{lineByte}
 use Rattle.chip.specs.Outcome.{transacted}
 use Rattle.pins.specs.declared.levels.Levels.{Levels}
 use Rattle.pins.specs.declared.underway.Underway.{Underway}
@@ -47,8 +47,8 @@ underwayOf c t =
       whole = length (t .sent);
       pulses = t .pulses;
       register = t .register;
-      driven = during (driven (c .device) (c .array) (t .sent)) .driven;
-      byte = during (driven (c .device) (c .array) (t .sent)) .byte;
+      driven = lineByte (driven (c .device) (c .array) (t .sent)) .driven;
+      byte = lineByte (driven (c .device) (c .array) (t .sent)) .byte;
       bit = bitShown c (t .shown);
     }
 
@@ -76,8 +76,8 @@ oneMore u d array sent bit =
       whole = u .whole + 1;
       pulses = 0;
       register = shifted (u .register) bit;
-      driven = during (driven d array (take (u .whole + 1) (set sent (u .whole) (shifted (u .register) bit)))) .driven;
-      byte = during (driven d array (take (u .whole + 1) (set sent (u .whole) (shifted (u .register) bit)))) .byte;
+      driven = lineByte (driven d array (take (u .whole + 1) (set sent (u .whole) (shifted (u .register) bit)))) .driven;
+      byte = lineByte (driven d array (take (u .whole + 1) (set sent (u .whole) (shifted (u .register) bit)))) .byte;
       bit = u .bit;
     })
     (record { whole = u .whole; pulses = u .pulses + 1; register = shifted (u .register) bit; driven = u .driven; byte = u .byte; bit = u .bit })

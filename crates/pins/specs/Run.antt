@@ -4,35 +4,31 @@ use mathlib.Core.Bool.{cond, not, _||_}
 use mathlib.Core.List.{List, [], _∷_}
 use Prim.Native.Nat.{ℕ, _+_, _-_, _/_, _%_, _^_}
 use lib.Dec.{eqb, ltb}
-use lib.ListN.{length, take, replicate}
+use lib.ListN.{length, take}
 use Rattle.slices.specs.Changed.{mapAt, window}
 use Rattle.parts.specs.Parts.{figuresOf}
 use Rattle.device.specs.declared.Device.{Device}
 use Rattle.device.specs.declared.Checked.{Checked}
 use Rattle.device.specs.Device.{sound, onZero}
 use Rattle.chip.specs.Line.{Driven, silent, drives, driven}
-use Rattle.chip.specs.Outcome.{transacted}
+pub use Rattle.chip.specs.Events.{Chip}
+use Rattle.chip.specs.Events as chip
 use Rattle.pins.specs.Pins.{Transaction, Shown, nothing, after, Seen, seen, oddSamples, tooLong}
 
 -- ---- the transactions, carried out
 
--- a record and its array
-pub record Chip : Type 0 where
-  pub device : Device
-  pub array : List ℕ
-
 -- one transaction; its response is kept by nobody
-unfoldable pub carriedOut : Chip → Transaction → Chip
-carriedOut c t =
-    record {
-      device = transacted (c .device) (c .array) (t .sent) (t .pulses) (t .w) (replicate (length (t .sent)) 0) .device;
-      array = transacted (c .device) (c .array) (t .sent) (t .pulses) (t .w) (replicate (length (t .sent)) 0) .array;
-    }
+abbrev pub carriedOut : Chip → Transaction → Chip
+carriedOut c t = chip.after (chip.sends (t .sent) (t .pulses) (t .w)) c
+
+-- transactions are events of the chip
+abbrev pub eventsOf : List Transaction → List chip.Event
+eventsOf [] = []
+eventsOf (t ∷ ts) = chip.sends (t .sent) (t .pulses) (t .w) ∷ eventsOf ts
 
 -- transactions in order
 abbrev pub carriedAll : Chip → List Transaction → Chip
-carriedAll c [] = c
-carriedAll c (t ∷ ts) = carriedAll (carriedOut c t) ts
+carriedAll c ts = chip.run (eventsOf ts) c
 
 -- the chip after these samples
 unfoldable pub chipAfter : Device → List ℕ → List ℕ → Chip
