@@ -6,3 +6,6 @@ pub mod During
 pub mod Change
 pub mod Outcome
 pub mod Worked
+pub mod Told
+pub mod ToldParts
+pub mod ToldCalls
