@@ -11,15 +11,17 @@ use Rattle.memory.specs.Memory.{blank, reached, landed, programmed, erased}
 use Rattle.memory.specs.Memory as memory
 use Rattle.parts.specs.Parts.{figuresOf}
 use Rattle.parts.specs.Protected.{protectedOf, columnOf, byRule}
-use Rattle.device.specs.declared.Mode.the-variants.{Standby}
-use Rattle.device.specs.Device.{sound, latchAt, moded, latched, running, waited, soundAnswer, waitCall}
+use Rattle.device.specs.declared.Mode.the-variants.{Standby, Busy}
+use Rattle.device.specs.declared.Device.{Device}
+use Rattle.device.specs.declared.Checked.{Checked}
+use Rattle.device.specs.Device.{sound, latchAt, moded, latched, settled, running, waited, soundAnswer, waitCall}
 use Rattle.chip.specs.Table.{rowOf, addressOf}
 use Rattle.chip.specs.Answers.{hostNumber, chipNumber, asNeeded, inProtected, decided, verdictOf}
 use Rattle.device.specs.Cycles.{touched}
-use Rattle.chip.specs.Change.{cycleOf, changed, turned}
+use Rattle.chip.specs.Change.{bpIn, cycleOf, changed, turned}
 use Rattle.chip.specs.Outcome.{outcomeOf, transacted}
-use Rattle.chip.specs.Events.{Chip, sent}
-use Rattle.jobs.specs.Jobs.{Job, Entry, runJobs, history, isProgram, isErase, isBulkErase, AtRest, WellFormed, AllFormed}
+use Rattle.chip.specs.Events.{Chip, sent, run}
+use Rattle.jobs.specs.Jobs.{Job, Entry, longestCycle, enable, carry, afterJob, runJobs, history, isProgram, isErase, isBulkErase, AtRest, WellFormed, AllFormed}
 use Rattle.jobs.specs.Formula.{afterLastErase, programmedBytes, endsAs}
 
 -- the bench part in standby with BP 1, which protects the sector from 000C00 on; durations 3, 5, 9, 2; every byte 7F
@@ -108,3 +110,67 @@ pub shown : Shown
 unfolding sent transacted outcomeOf verdictOf decided hostNumber chipNumber rowOf addressOf asNeeded inProtected protectedOf columnOf byRule cycleOf touched changed turned running moded latched waited waitCall soundAnswer sound latchAt figuresOf mapAt programmed erased blank memory.filled reached landed
 shown =
     record { erase-last = refl; erase-first = refl; answers = refl; anded = refl; protects = refl; erases = refl; keeps = refl; anew = refl; later = refl; formula = refl; formula-first = refl }
+
+-- ---- the wait
+
+-- the bench part with BP 0 and these four durations: program, sector erase, bulk erase, write status
+abbrev pub lasting : ℕ → ℕ → ℕ → ℕ → Device
+lasting p s b w = record { part = 0; bp = 0; srwd = false; latch = false; mode = Standby; program = p; «sector_erase» = s; «bulk_erase» = b; «write_status» = w }
+
+-- the same in a cycle, latch set
+abbrev pub going : ℕ → Device → Device
+going t d = record { part = 0; bp = 0; srwd = false; latch = true; mode = Busy t; program = d .program; «sector_erase» = d .«sector_erase»; «bulk_erase» = d .«bulk_erase»; «write_status» = d .«write_status» }
+
+-- a record beside an array of 7F
+abbrev pub chip : Device → Chip
+chip d = record { device = d; array = replicate 4096 0x7F }
+
+-- the record after write enable and what the job sends, and the wait on it
+abbrev pub carried : Job → Chip → Device
+carried j c = run (enable j ∷ carry j ∷ []) c .device
+
+abbrev pub rested : Job → Chip → Checked
+rested j c = waitCall (carried j c) (longestCycle (c .device))
+
+-- executed, with a record
+abbrev pub done : Device → Checked
+done d = record { answer = 0; device = d }
+
+-- the longest duration, a million ticks, in each of the four places
+pub record Waits : Type 0 where
+  -- the wait is that number
+  pub program : longestCycle (lasting 1000000 5 9 2) ≡ 1000000
+  pub sector : longestCycle (lasting 3 1000000 9 2) ≡ 1000000
+  pub bulk : longestCycle (lasting 3 5 1000000 2) ≡ 1000000
+  pub status : longestCycle (lasting 3 5 9 1000000) ≡ 1000000
+  -- the cycle has that many ticks left before it, and is over after it: standby, latch reset
+  pub programs-going : carried (programs 0x00 0x10 0xF0) (chip (lasting 1000000 5 9 2)) ≡ going 1000000 (lasting 1000000 5 9 2)
+  pub programs-over : rested (programs 0x00 0x10 0xF0) (chip (lasting 1000000 5 9 2)) ≡ done (lasting 1000000 5 9 2)
+  pub sector-going : carried (job (0xD8 ∷ 0x00 ∷ 0x00 ∷ 0x00 ∷ [])) (chip (lasting 3 1000000 9 2)) ≡ going 1000000 (lasting 3 1000000 9 2)
+  pub sector-over : rested (job (0xD8 ∷ 0x00 ∷ 0x00 ∷ 0x00 ∷ [])) (chip (lasting 3 1000000 9 2)) ≡ done (lasting 3 1000000 9 2)
+  pub bulk-going : carried (job (0xC7 ∷ [])) (chip (lasting 3 5 1000000 2)) ≡ going 1000000 (lasting 3 5 1000000 2)
+  pub bulk-over : rested (job (0xC7 ∷ [])) (chip (lasting 3 5 1000000 2)) ≡ done (lasting 3 5 1000000 2)
+  -- settings, which are no job but wait like one
+  pub status-going : carried (job (0x01 ∷ 0x00 ∷ [])) (chip (lasting 3 5 9 1000000)) ≡ going 1000000 (lasting 3 5 9 1000000)
+  pub status-over : rested (job (0x01 ∷ 0x00 ∷ [])) (chip (lasting 3 5 9 1000000)) ≡ done (lasting 3 5 9 1000000)
+  -- after a job that was ignored, 06 is undone by 04
+  pub ignored : afterJob (job (0xC7 ∷ 0x00 ∷ [])) (chip (lasting 3 5 9 2)) .device ≡ lasting 3 5 9 2
+
+-- computed by the checker
+pub waits : Waits
+unfolding sent transacted outcomeOf verdictOf decided hostNumber chipNumber rowOf addressOf asNeeded inProtected protectedOf columnOf byRule cycleOf touched changed turned running moded latched waited waitCall soundAnswer sound latchAt figuresOf mapAt programmed erased blank memory.filled reached landed settled bpIn
+waits = record {
+  program = refl;
+  sector = refl;
+  bulk = refl;
+  status = refl;
+  programs-going = refl;
+  programs-over = refl;
+  sector-going = refl;
+  sector-over = refl;
+  bulk-going = refl;
+  bulk-over = refl;
+  status-going = refl;
+  status-over = refl;
+  ignored = refl;
+}

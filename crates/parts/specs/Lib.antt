@@ -1,3 +1,4 @@
 -- The parts' figures and the protected sectors.
 pub mod Parts
 pub mod Protected
+pub mod Told
