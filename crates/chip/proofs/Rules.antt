@@ -16,8 +16,6 @@ use Rattle.memory.specs.Memory.{programmed, erased}
 use Rattle.parts.specs.declared.Figures.{Figures}
 use Rattle.parts.specs.Parts.{figuresOf}
 use Rattle.parts.proofs.Laws.{figures-ind}
-use Rattle.device.specs.declared.Mode.{Mode}
-use Rattle.device.specs.declared.Mode.the-variants.{Standby, Busy, Deep}
 use Rattle.device.specs.declared.Device.{Device}
 use Rattle.device.specs.Device.{isBusy, isDeep, sound, statusByte}
 use Rattle.device.specs.declared.cycle.Kind.{Kind}

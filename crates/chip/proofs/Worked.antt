@@ -5,60 +5,68 @@ use mathlib.Core.Bool.{Bool, true, _&&_}
 use mathlib.Core.List.{List, [], _∷_}
 use Prim.Native.Nat.{ℕ}
 use lib.Dec.{T, eqb}
-use lib.ListN.{length, getD, length-replicate}
+use lib.ListN.{length, getD, replicate, length-replicate}
 use Rattle.slices.specs.Changed.{mapAt, window, sumAt}
 use Rattle.memory.specs.Memory as memory-is
 use Rattle.parts.specs.Parts.{figuresOf}
 use Rattle.parts.specs.Protected.{protectedOf, columnOf, byRule}
-use Rattle.device.specs.declared.Device.{Device}
 use Rattle.device.specs.Device.{waitCall, powerUpCall, soundAnswer, waited, poweredUp, sound, statusByte, moded, latched, settled, running, latchAt}
 use Rattle.chip.specs.Table.{rowOf, addressOf}
 use Rattle.chip.specs.Answers.{hostNumber, inProtected, asNeeded, chipNumber, decided, verdictOf}
 use Rattle.chip.specs.Line.{byRow, heard, heardRow, driven, lined, drivingAt, firstOf, countOf}
 use Rattle.device.specs.Cycles.{noSlots, touched}
 use Rattle.chip.specs.Change.{cycleOf, changed, bpIn, turned}
-use Rattle.chip.specs.Outcome.{Outcome, outcomeOf, transacted}
-use Rattle.chip.specs.Worked.{Event, sends, waits, starts, holds, Case, buffer, gave, sees, fresh, all, cases, further}
-use Rattle.chip.proofs.Rules.{array-length}
+use Rattle.chip.specs.Outcome.{outcomeOf, transacted}
+use Rattle.chip.specs.Worked.{Step, tells, holds, Case, gave, sees, fresh, all, cases, further}
+use Rattle.chip.specs.Events.{Chip, Event, sends, waits, starts, Told, sent, after, told}
+use Rattle.chip.proofs.Events.{after-length}
 
--- a transaction on an array of a given length
-abbrev ask : ℕ → Bool → ℕ → List ℕ → Device → List ℕ → Outcome
-ask len w p bytes d array = outcomeOf (verdictOf d len bytes p w (length (buffer bytes))) d array bytes (buffer bytes)
+-- an event on an array of a given length: what it leaves, and what is seen of it
+record Done : Type 0 where
+  chip : Chip
+  told : Told
 
--- `sees`, with the array's length given
-unfoldable seesAt : ℕ → List Event → Device → List ℕ → Bool
-seesAt len [] d array = true
-seesAt len (sends w p bytes a r ∷ es) d array =
-    let o = ask len w p bytes d array in
-    gave o a r && seesAt len es (o .device) (o .array)
-seesAt len (waits t ∷ es) d array = eqb (waitCall d t .answer) 0 && seesAt len es (waitCall d t .device) array
-seesAt len (starts ∷ es) d array = eqb (powerUpCall d .answer) 0 && seesAt len es (powerUpCall d .device) array
-seesAt len (holds i x ∷ es) d array = eqb (getD array i 0) x && seesAt len es d array
+abbrev does : ℕ → Event → Chip → Done
+does len (sends bytes p w) c =
+    let zeros : List ℕ = replicate (length bytes) 0 in
+    let o = outcomeOf (verdictOf (c .device) len bytes p w (length zeros)) (c .device) (c .array) bytes zeros in
+    record { chip = record { device = o .device; array = o .array }; told = record { answer = o .answer; line = o .response } }
+does len (waits t) c = record { chip = after (waits t) c; told = told (waits t) c }
+does len starts c = record { chip = after starts c; told = told starts c }
 
 -- the length given is the array's
-sees-at : (es : List Event) (len : ℕ) (d : Device) (array : List ℕ) → length array ≡ len → seesAt len es d array ≡ sees es d array
-unfolding seesAt sees transacted
-sees-at [] len d array h = refl
-sees-at (sends w p bytes a r ∷ es) len d array h =
-    ap (λ (n : ℕ). gave (ask n w p bytes d array) a r && seesAt len es (ask n w p bytes d array .device) (ask n w p bytes d array .array)) (sym h)
-    ∙ ap (λ (b : Bool). gave (ask (length array) w p bytes d array) a r && b)
-    (sees-at es len (ask (length array) w p bytes d array .device) (ask (length array) w p bytes d array .array) (array-length d array bytes p w (buffer bytes) ∙ h))
-sees-at (waits t ∷ es) len d array h = ap (λ (b : Bool). eqb (waitCall d t .answer) 0 && b) (sees-at es len (waitCall d t .device) array h)
-sees-at (starts ∷ es) len d array h = ap (λ (b : Bool). eqb (powerUpCall d .answer) 0 && b) (sees-at es len (powerUpCall d .device) array h)
-sees-at (holds i x ∷ es) len d array h = ap (λ (b : Bool). eqb (getD array i 0) x && b) (sees-at es len d array h)
+does-is : (e : Event) (c : Chip) → does (length (c .array)) e c ≡ record { chip = after e c; told = told e c }
+unfolding sent transacted
+does-is (sends bytes p w) c = refl
+does-is (waits t) c = refl
+does-is starts c = refl
+
+-- `sees`, with the array's length given
+unfoldable seesAt : ℕ → List Step → Chip → Bool
+seesAt len [] c = true
+seesAt len (tells e a r ∷ ss) c =
+    let o = does len e c in
+    gave (o .told) a r && seesAt len ss (o .chip)
+seesAt len (holds i x ∷ ss) c = eqb (getD (c .array) i 0) x && seesAt len ss c
+
+sees-at : (ss : List Step) (len : ℕ) (c : Chip) → length (c .array) ≡ len → seesAt len ss c ≡ sees ss c
+unfolding seesAt sees
+sees-at [] len c h = refl
+sees-at (tells e a r ∷ ss) len c h =
+    ap (λ (o : Done). gave (o .told) a r && seesAt len ss (o .chip)) (ap (λ (n : ℕ). does n e c) (sym h) ∙ does-is e c)
+    ∙ ap (λ (b : Bool). gave (told e c) a r && b) (sees-at ss len (after e c) (after-length e c ∙ h))
+sees-at (holds i x ∷ ss) len c h = ap (λ (b : Bool). eqb (getD (c .array) i 0) x && b) (sees-at ss len c h)
 
 -- `all`, with the arrays' lengths given
 unfoldable allAt : List Case → Bool
 allAt [] = true
-allAt (k ∷ ks) = seesAt (figuresOf (k .device .part) .bytes) (k .events) (k .device) (fresh (k .device)) && allAt ks
+allAt (k ∷ ks) = seesAt (figuresOf (k .device .part) .bytes) (k .steps) (fresh (k .device)) && allAt ks
 
 all-at : (ks : List Case) → allAt ks ≡ all ks
 unfolding all allAt
 all-at [] = refl
 all-at (k ∷ ks) =
-    ap₂ _&&_
-    (sees-at (k .events) (figuresOf (k .device .part) .bytes) (k .device) (fresh (k .device)) (length-replicate (figuresOf (k .device .part) .bytes) 0xFF))
-    (all-at ks)
+    ap₂ _&&_ (sees-at (k .steps) (figuresOf (k .device .part) .bytes) (fresh (k .device)) (length-replicate (figuresOf (k .device .part) .bytes) 0xFF)) (all-at ks)
 
 computed : T (allAt cases) × T (allAt further)
 unfolding allAt cases further seesAt mapAt window sumAt memory-is.blank memory-is.filled memory-is.programmed memory-is.erased figuresOf protectedOf columnOf byRule waitCall powerUpCall soundAnswer waited poweredUp sound statusByte moded latched settled running latchAt rowOf addressOf hostNumber inProtected asNeeded chipNumber decided verdictOf byRow heard heardRow driven lined drivingAt firstOf countOf noSlots cycleOf touched changed bpIn turned outcomeOf

@@ -17,14 +17,15 @@ use Rattle.chip.specs.Line.{byRow, heard, heardRow, driven, lined, drivi
 use Rattle.device.specs.Cycles.{noSlots, touched}
 use Rattle.chip.specs.Change.{cycleOf, changed, bpIn, turned}
 use Rattle.chip.specs.Outcome.{Outcome, outcomeOf, transacted, bare}
-use Rattle.chip.specs.Worked.{Event, sends, waits, starts, holds, sees, fresh, record-of, bench, usual, told, answers, reads, status}
+use Rattle.chip.specs.Events.{sent}
+use Rattle.chip.specs.Worked.{Step, sends, waits, starts, holds, sees, fresh, record-of, bench, usual, told, answers, reads, status}
 
--- all of these events are as they say, from a record and an array all FF on
-abbrev pub Seen : Device → List Event → Type 0
-Seen d es = sees es d (fresh d) ≡ true
+-- all of these are as they say, from a record and an array all FF on
+abbrev pub Seen : Device → List Step → Type 0
+Seen d es = sees es (fresh d) ≡ true
 
 -- a cycle of k ticks, one by one: a status until it ends, and another afterwards
-abbrev pub cycle : ℕ → ℕ → ℕ → List Event
+abbrev pub cycle : ℕ → ℕ → ℕ → List Step
 cycle zero busy idle = status idle ∷ []
 cycle (suc k) busy idle = status busy ∷ waits 1 ∷ cycle k busy idle
 
@@ -84,7 +85,7 @@ pub record Calls : Type 0 where
 
 -- computed by the checker
 pub calls : Calls
-unfolding sees mapAt window sumAt memory-is.blank memory-is.filled memory-is.programmed memory-is.erased figuresOf protectedOf columnOf byRule waitCall powerUpCall soundAnswer waited poweredUp sound statusByte moded latched settled running latchAt rowOf addressOf hostNumber inProtected asNeeded chipNumber decided verdictOf byRow heard heardRow driven lined drivingAt firstOf countOf noSlots cycleOf touched changed bpIn turned outcomeOf transacted
+unfolding sees sent mapAt window sumAt memory-is.blank memory-is.filled memory-is.programmed memory-is.erased figuresOf protectedOf columnOf byRule waitCall powerUpCall soundAnswer waited poweredUp sound statusByte moded latched settled running latchAt rowOf addressOf hostNumber inProtected asNeeded chipNumber decided verdictOf byRow heard heardRow driven lined drivingAt firstOf countOf noSlots cycleOf touched changed bpIn turned outcomeOf transacted
 calls = record {
   wren = refl;
   wrdi = refl;

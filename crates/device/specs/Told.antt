@@ -225,7 +225,7 @@ pub record Packings : Type 0 where
 
 -- computed by the checker
 pub packings : Packings
-unfolding zeroRecord latchAt sound packOf fieldsOf formed packAnswer unpackAnswer unpackOf figuresOf
+unfolding zeroRecord delivered latchAt sound packOf fieldsOf formed packAnswer unpackAnswer unpackOf figuresOf
 packings = record {
   packs-busy = refl;
   packs-deep = refl;
