@@ -4,11 +4,10 @@ use mathlib.Core.Bool.{Bool, true, false, cond}
 use mathlib.Core.List.{List, [], _∷_, map}
 use Prim.Native.Nat.{ℕ, zero, suc}
 use lib.Dec.{eqb}
-use lib.ListN.{length, getD, replicate}
+use lib.ListN.{length, getD}
 use Rattle.slices.specs.Changed.{mapAt}
 use Rattle.parts.specs.Parts.{figuresOf}
 use Rattle.parts.specs.Protected.{protectedOf, columnOf, uncelled}
-use Rattle.device.specs.declared.Mode.{Mode}
 use Rattle.device.specs.declared.Mode.the-variants.{Standby, Busy, Deep}
 use Rattle.device.specs.declared.Device.{Device}
 use Rattle.device.specs.Device.{sound, latchAt, zeroRecord, delivered}
@@ -29,10 +28,11 @@ unsound = bench 4 false true
 abbrev pub sizes : List ℕ
 sizes = 4096 ∷ 131072 ∷ 524288 ∷ 4194304 ∷ 16777216 ∷ []
 
--- a delivery and a transaction of one byte, on an array of each of these lengths
+-- what a delivery of a part answers on arrays of these lengths
 abbrev pub delivers : ℕ → List ℕ → List ℕ
 delivers p arrays = map (λ (a : ℕ). deliveryAnswer p a 3 5 9 2) arrays
 
+-- what a transaction of one byte is refused with on arrays of these lengths
 abbrev pub takes : ℕ → List ℕ → List ℕ
 takes p arrays = map (λ (a : ℕ). refusal (record-of p 0 false false Standby) a 1 0 1) arrays
 
@@ -40,6 +40,7 @@ takes p arrays = map (λ (a : ℕ). refusal (record-of p 0 false false Standby) 
 abbrev pub borders : List ℕ
 borders = 0 ∷ 1 ∷ 1000000 ∷ 1000001 ∷ []
 
+-- what the host side answers
 pub record Host : Type 0 where
   -- delivery, 1: part above 4
   pub one : map (λ (p : ℕ). deliveryAnswer p 4096 3 5 9 2) (0 ∷ 5 ∷ 255 ∷ 256 ∷ []) ≡ 0 ∷ 1 ∷ 1 ∷ 1 ∷ []
@@ -79,6 +80,7 @@ pub record Host : Type 0 where
   -- transaction in order, each with all that come after it: 6, 2, 3, 4, 5
   pub order : refusal unsound 0 65537 8 0 ∷ refusal usual 0 65537 8 0 ∷ refusal usual 4096 65537 8 0 ∷ refusal usual 4096 65536 8 0 ∷ refusal usual 4096 65536 7 0 ∷ refusal usual 4096 65536 7 65536 ∷ [] ≡ 6 ∷ 2 ∷ 3 ∷ 4 ∷ 5 ∷ 0 ∷ []
 
+-- computed by the checker
 pub host : Host
 unfolding deliveryAnswer refusal sound latchAt figuresOf zeroRecord delivered mapAt
 host = record {
@@ -159,28 +161,31 @@ knownFrom d code (suc k) = cond (eqb (number d 0 true (code ∷ [])) 14) (knownF
 abbrev pub known : Device → List ℕ
 known d = knownFrom d 0 256
 
--- the codes of a part that sleeps, and of the M25P128
+-- the twelve codes
 abbrev pub codes : List ℕ
 codes = 0x01 ∷ 0x02 ∷ 0x03 ∷ 0x04 ∷ 0x05 ∷ 0x06 ∷ 0x0B ∷ 0x9F ∷ 0xAB ∷ 0xB9 ∷ 0xC7 ∷ 0xD8 ∷ []
 
+-- the ten of the M25P128
 abbrev pub sleepless : List ℕ
 sleepless = 0x01 ∷ 0x02 ∷ 0x03 ∷ 0x04 ∷ 0x05 ∷ 0x06 ∷ 0x0B ∷ 0x9F ∷ 0xC7 ∷ 0xD8 ∷ []
 
--- a program without its data, and the settings with a byte too many
+-- a program without its data
 abbrev pub dataless : List ℕ
 dataless = 0x02 ∷ 0 ∷ 0 ∷ 0 ∷ []
 
+-- the settings with a byte too many
 abbrev pub threeBytes : List ℕ
 threeBytes = 0x01 ∷ 0 ∷ 0 ∷ []
 
--- a program, and the settings, as they need to be
+-- a program as it needs to be
 abbrev pub program : List ℕ
 program = 0x02 ∷ 0 ∷ 0 ∷ 0 ∷ 0x5A ∷ []
 
+-- the settings as they need to be
 abbrev pub settings : List ℕ
 settings = 0x01 ∷ 0 ∷ []
 
--- each row in the order of the twelve: WREN, WRDI, RDID, RDSR, WRSR, READ, FAST_READ, PP, SE, BE, DP, RES
+-- what the chip answers; each row of twelve in the order WREN, WRDI, RDID, RDSR, WRSR, READ, FAST_READ, PP, SE, BE, DP, RES
 pub record Chip : Type 0 where
   -- standby, latch set, BP 0, SRWD 0: all are executed, on every part that has them
   pub ready : asked usual 0 true ≡ 0 ∷ 0 ∷ 0 ∷ 0 ∷ 0 ∷ 0 ∷ 0 ∷ 0 ∷ 0 ∷ 0 ∷ 0 ∷ 0 ∷ []
@@ -237,6 +242,7 @@ pub record Chip : Type 0 where
   -- a refusal before each of them
   pub host-first : number usual 8 true [] ∷ number usual 8 true (0xFE ∷ []) ∷ number (record-of 0 0 false true (Busy 1)) 8 true program ∷ number (record-of 0 0 false true Deep) 8 true program ∷ number usual 8 true dataless ∷ number (bench 0 false false) 8 true program ∷ number (bench 3 false true) 8 true program ∷ number (bench 0 true true) 8 false settings ∷ [] ≡ 4 ∷ 4 ∷ 4 ∷ 4 ∷ 4 ∷ 4 ∷ 4 ∷ 4 ∷ []
 
+-- computed by the checker
 pub chip : Chip
 unfolding refusal sound latchAt figuresOf inProtected asNeeded ignorance decided verdictOf rowOf addressOf protectedOf columnOf uncelled
 chip = record {

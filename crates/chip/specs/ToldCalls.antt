@@ -35,6 +35,7 @@ handed d array sent response = transacted d (replicate array 0x11) sent 0 true (
 abbrev pub refused : ℕ → Device → ℕ → ℕ → Outcome
 refused k d array response = record { answer = record { number = k; first = 0; count = 0 }; device = d; array = replicate array 0x11; response = replicate response 0x55 }
 
+-- what the calls answer and hand back
 pub record Calls : Type 0 where
   -- WREN: the latch is set, and waiting does not reset it
   pub wren : Seen (bench 0 false false) (status 0x00 ∷ answers (0x06 ∷ []) 0 ∷ status 0x02 ∷ waits 9 ∷ status 0x02 ∷ [])
@@ -80,6 +81,7 @@ pub record Calls : Type 0 where
   pub ignored : handed usual 4096 (0x03 ∷ 0 ∷ []) 4 .response ≡ 0xFF ∷ 0xFF ∷ 0x55 ∷ 0x55 ∷ []
   pub executed : handed usual 4096 (0x05 ∷ 0 ∷ []) 4 .response ≡ 0xFF ∷ 0x02 ∷ 0x55 ∷ 0x55 ∷ []
 
+-- computed by the checker
 pub calls : Calls
 unfolding sees mapAt window sumAt memory-is.blank memory-is.latched memory-is.programmed memory-is.erased figuresOf protectedOf columnOf uncelled waitCall powerUpCall soundAnswer waited poweredUp sound statusByte moded latched settled running latchAt rowOf addressOf refusal inProtected asNeeded ignorance decided verdictOf byRow heard heardRow driven lined drivingAt firstOf countOf none cycleOf touched bpIn turned outcomeOf transacted
 calls = record {

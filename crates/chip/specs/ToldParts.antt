@@ -1,7 +1,7 @@
 -- The five parts told a second time, and computed: what they drive, the record after each instruction, where protection begins, which bytes change. Lengths are handed over as numbers.
 use mathlib.Core.Path.{_≡_, refl}
-use mathlib.Core.Bool.{Bool, true, false}
-use mathlib.Core.List.{List, [], _∷_, map}
+use mathlib.Core.Bool.{true, false}
+use mathlib.Core.List.{List, [], _∷_, _++_, map}
 use Prim.Native.Nat.{ℕ, suc, _-_, _/_, _%_}
 use lib.ListN.{length, getD, take, replicate}
 use Rattle.slices.specs.Changed.{mapAt, window, sumAt}
@@ -11,6 +11,7 @@ use Rattle.parts.specs.Protected.{protectedOf, columnOf, uncelled}
 use Rattle.device.specs.declared.Mode.the-variants.{Standby, Busy, Deep}
 use Rattle.device.specs.declared.Device.{Device}
 use Rattle.device.specs.Device.{sound, statusByte, moded, latched, settled, running, latchAt}
+use Rattle.chip.specs.declared.table.Area.the-variants.{Nowhere, Page, Sector, All}
 use Rattle.chip.specs.Table.{rowOf, addressOf}
 use Rattle.chip.specs.Answers.{refusal, inProtected, asNeeded, ignorance, decided, verdictOf, rowIn}
 use Rattle.chip.specs.Line.{Driven, silent, drives, byRow, heard, heardRow, driven, lined, drivingAt, firstOf, countOf}
@@ -49,6 +50,7 @@ late b = silent ∷ silent ∷ silent ∷ silent ∷ replicate 3 (drives b)
 abbrev pub names : ℕ → ℕ → ℕ → List Driven
 names a b c = silent ∷ drives a ∷ drives b ∷ drives c ∷ drives 0 ∷ drives 0 ∷ drives 0 ∷ []
 
+-- what each part drives
 pub record Lines : Type 0 where
   -- RDID
   pub names-bench : line (part 0 0) (sends 0x9F) ≡ names 0x00 0x00 0x0C
@@ -77,6 +79,7 @@ pub record Lines : Type 0 where
   pub deep : line (record-of 0 0 false true Deep) (sends 0xAB) ≡ late 0x0B
   pub deep-others : map (λ (code : ℕ). line (record-of 0 0 false true Deep) (sends code)) (0x9F ∷ 0x05 ∷ 0x03 ∷ 0x0B ∷ []) ≡ replicate 4 mute
 
+-- computed by the checker
 pub lines : Lines
 unfolding figuresOf statusByte rowOf addressOf byRow heard heardRow driven
 lines = record {
@@ -111,6 +114,7 @@ after d sent = outcomeOf (verdictOf d (getD sizes (d .part) 0) sent 0 true (leng
 abbrev pub sets : ℕ → List ℕ
 sets p = map (λ (b : ℕ). after (part p 0) (0x01 ∷ b ∷ []) .bp) (0x00 ∷ 0x04 ∷ 0x08 ∷ 0x0C ∷ 0x10 ∷ 0x14 ∷ 0x18 ∷ 0x1C ∷ 0xFF ∷ 0xE3 ∷ [])
 
+-- what each instruction does to the record
 pub record Turns : Type 0 where
   -- WRSR: bits 4 to 2, bits 3 and 2 where the highest BP is 3
   pub sets-bench : sets 0 ≡ 0 ∷ 1 ∷ 2 ∷ 3 ∷ 0 ∷ 1 ∷ 2 ∷ 3 ∷ 3 ∷ 0 ∷ []
@@ -142,6 +146,7 @@ pub record Turns : Type 0 where
   pub dp-m25p40 : after (part 2 0) (0xB9 ∷ []) ≡ record-of 2 0 false true Deep
   pub dp-m25p10a : after (part 1 0) (0xB9 ∷ []) ≡ record-of 1 0 false true Deep
 
+-- computed by the checker
 pub turns : Turns
 unfolding mapAt window sumAt memory-is.blank memory-is.latched memory-is.programmed memory-is.erased figuresOf protectedOf columnOf uncelled sound statusByte moded latched settled running latchAt rowOf addressOf refusal inProtected asNeeded ignorance decided verdictOf byRow heard heardRow driven lined drivingAt firstOf countOf none cycleOf touched bpIn turned outcomeOf
 turns = record {
@@ -200,13 +205,15 @@ abbrev pub become : ℕ → List ℕ → List ℕ → List ℕ
 become p sent places =
     map (λ (i : ℕ). touched (figuresOf p) (cycleOf (rowIn (part p 0) sent .area) (addressOf (figuresOf p) sent) sent) i 0x3C) places
 
--- BP 0 to 3, and 0 to 7
+-- BP 0 to 3
 abbrev pub four : List ℕ
 four = 0 ∷ 1 ∷ 2 ∷ 3 ∷ []
 
+-- BP 0 to 7
 abbrev pub eight : List ℕ
 eight = 0 ∷ 1 ∷ 2 ∷ 3 ∷ 4 ∷ 5 ∷ 6 ∷ 7 ∷ []
 
+-- which addresses are protected, and which bytes change
 pub record Places : Type 0 where
   -- where protection begins for BP 1 and up, until all is protected: executed below, 17 from there on
   pub edges-bench : edges 0 1 (0x000C00 ∷ 0x000800 ∷ []) ≡ replicate 2 (0 ∷ 0 ∷ 17 ∷ 17 ∷ [])
@@ -242,9 +249,15 @@ pub record Places : Type 0 where
   pub page-m25p128 : become 4 (program 0xFFFFFF) (0xFFFEFF ∷ 0xFFFF00 ∷ 0xFFFF01 ∷ 0xFFFFFF ∷ 0x000000 ∷ []) ≡ 0x3C ∷ 0x30 ∷ 0x3C ∷ 0x18 ∷ 0x3C ∷ []
   -- BE: every byte
   pub bulk : become 3 (0xC7 ∷ []) (0x000000 ∷ 0x3FFFFF ∷ []) ≡ 0xFF ∷ 0xFF ∷ []
+  -- a cycle: its area, its address where that counts, and slots where there is data, all FF at first, a later byte in place of an earlier one
+  pub cycle-page : cycleOf Page 0x1FF (program 0x0001FF) ≡ record { area = Page; at = 0x1FF; slots = 0xF0 ∷ (replicate 254 0xFF ++ (0x5A ∷ [])) }
+  pub cycle-sector : cycleOf Sector 0x1FF (erase 0x0001FF) ≡ record { area = Sector; at = 0x1FF; slots = replicate 256 0 }
+  pub cycle-all : cycleOf All 0x1FF (0xC7 ∷ []) ≡ record { area = All; at = 0; slots = replicate 256 0 }
+  pub cycle-none : cycleOf Nowhere 0x1FF (0x01 ∷ 0x02 ∷ []) ≡ record { area = Nowhere; at = 0; slots = replicate 256 0 }
   -- the other nine change no byte
   pub others : map (λ (code : ℕ). become 3 (sends code) (2 ∷ [])) (0x06 ∷ 0x04 ∷ 0x9F ∷ 0x05 ∷ 0x01 ∷ 0x03 ∷ 0x0B ∷ 0xB9 ∷ 0xAB ∷ []) ≡ replicate 9 (0x3C ∷ [])
 
+-- computed by the checker
 pub places : Places
 unfolding memory-is.blank memory-is.latched memory-is.programmed memory-is.erased figuresOf protectedOf columnOf uncelled sound latchAt rowOf addressOf refusal inProtected asNeeded ignorance decided verdictOf none cycleOf touched
 places = record {
@@ -275,5 +288,9 @@ places = record {
   page-bench = refl;
   page-m25p128 = refl;
   bulk = refl;
+  cycle-page = refl;
+  cycle-sector = refl;
+  cycle-all = refl;
+  cycle-none = refl;
   others = refl;
 }

@@ -20,24 +20,27 @@ of p b s l m = record { part = p; bp = b; srwd = s; latch = l; mode = m; program
 abbrev pub durations : List ℕ
 durations = 0x03 ∷ 0x02 ∷ 0x01 ∷ 0 ∷ 0x06 ∷ 0x05 ∷ 0x04 ∷ 0 ∷ 0x0D ∷ 0x08 ∷ 0x07 ∷ 0 ∷ 0x10 ∷ 0x0F ∷ 0x0E ∷ 0 ∷ []
 
--- an M25P32 in a cycle
+-- an M25P40 in a cycle
 abbrev pub busy : Device
-busy = of 3 5 true true (Busy 0x0A0B0C)
+busy = of 2 5 true true (Busy 0x0A0B0C)
 
+-- its packing
 abbrev pub busyBytes : List ℕ
-busyBytes = (3 ∷ 5 ∷ 1 ∷ 1 ∷ 1 ∷ 0 ∷ 0 ∷ 0 ∷ 0x0C ∷ 0x0B ∷ 0x0A ∷ 0 ∷ []) ++ durations
+busyBytes = (2 ∷ 5 ∷ 1 ∷ 1 ∷ 1 ∷ 0 ∷ 0 ∷ 0 ∷ 0x0C ∷ 0x0B ∷ 0x0A ∷ 0 ∷ []) ++ durations
 
--- an M25P40 in deep power-down, latch reset
+-- an M25P32 in deep power-down, latch reset: no two fields are the same number
 abbrev pub deep : Device
-deep = of 2 6 true false Deep
+deep = of 3 6 true false Deep
 
+-- its packing
 abbrev pub deepBytes : List ℕ
-deepBytes = (2 ∷ 6 ∷ 1 ∷ 0 ∷ 2 ∷ 0 ∷ 0 ∷ 0 ∷ 0 ∷ 0 ∷ 0 ∷ 0 ∷ []) ++ durations
+deepBytes = (3 ∷ 6 ∷ 1 ∷ 0 ∷ 2 ∷ 0 ∷ 0 ∷ 0 ∷ 0 ∷ 0 ∷ 0 ∷ 0 ∷ []) ++ durations
 
 -- an M25P128 in standby, SRWD 0
 abbrev pub still : Device
 still = of 4 7 false true Standby
 
+-- its packing
 abbrev pub stillBytes : List ℕ
 stillBytes = (4 ∷ 7 ∷ 0 ∷ 1 ∷ 0 ∷ 0 ∷ 0 ∷ 0 ∷ 0 ∷ 0 ∷ 0 ∷ 0 ∷ []) ++ durations
 
@@ -51,15 +54,16 @@ zeros = record { part = 0; bp = 0; srwd = false; latch = false; mode = Standby; 
 
 -- ---- what the record becomes
 
+-- what becomes of a record
 pub record Changes : Type 0 where
   -- 'Delivery': BP 0, SRWD 0, latch reset, standby, the given durations
   pub delivery : delivered 2 0x010203 0x040506 0x07080D 0x0E0F10 ≡ of 2 0 false false Standby
   pub zero : zeroRecord ≡ zeros
   -- the latch, the settings and the mode are changed alone
-  pub enable : latched deep true ≡ of 2 6 true true Deep
+  pub enable : latched deep true ≡ of 3 6 true true Deep
   pub disable : latched still false ≡ of 4 7 false false Standby
-  pub settings : settled busy false 2 ≡ of 3 2 false true (Busy 0x0A0B0C)
-  pub wake : moded deep false Standby ≡ of 2 6 true false Standby
+  pub settings : settled busy false 2 ≡ of 2 2 false true (Busy 0x0A0B0C)
+  pub wake : moded deep false Standby ≡ of 3 6 true false Standby
   pub cycle : running still 9 ≡ of 4 7 false true (Busy 9)
   -- 'Waiting t ticks': fewer than are left fall off; otherwise standby, with the latch reset
   pub wait-none : waitCall (running still 9) 0 ≡ checked 0 (of 4 7 false true (Busy 9))
@@ -70,15 +74,16 @@ pub record Changes : Type 0 where
   -- in standby and in deep power-down waiting changes nothing
   pub wait-still : waitCall still 4294967295 ≡ checked 0 still
   pub wait-deep : waitCall deep 4294967295 ≡ checked 0 deep
-  pub wait-enabled : waitCall (latched deep true) 1 ≡ checked 0 (of 2 6 true true Deep)
+  pub wait-enabled : waitCall (latched deep true) 1 ≡ checked 0 (of 3 6 true true Deep)
   -- 'Power-up': standby, latch reset, all else kept
-  pub power-busy : powerUpCall busy ≡ checked 0 (of 3 5 true false Standby)
-  pub power-deep : powerUpCall (latched deep true) ≡ checked 0 (of 2 6 true false Standby)
+  pub power-busy : powerUpCall busy ≡ checked 0 (of 2 5 true false Standby)
+  pub power-deep : powerUpCall (latched deep true) ≡ checked 0 (of 3 6 true false Standby)
   pub power-still : powerUpCall still ≡ checked 0 (of 4 7 false false Standby)
   -- 6 hands the record back as it came
   pub wait-unsound : waitCall (of 3 5 true false (Busy 9)) 9 ≡ checked 6 (of 3 5 true false (Busy 9))
   pub power-unsound : powerUpCall (of 4 7 true true Deep) ≡ checked 6 (of 4 7 true true Deep)
 
+-- computed by the checker
 pub changes : Changes
 unfolding delivered zeroRecord latchAt latched settled moded running waited poweredUp sound soundAnswer waitCall powerUpCall figuresOf
 changes = record {
@@ -118,6 +123,7 @@ withBP p = map (λ (b : ℕ). soundAnswer (of p b false false Standby)) (0 ∷ 1
 abbrev pub withPart : Bool → Mode → List ℕ
 withPart l m = map (λ (p : ℕ). soundAnswer (of p 0 false l m)) (0 ∷ 1 ∷ 2 ∷ 3 ∷ 4 ∷ 5 ∷ 255 ∷ [])
 
+-- which records are sound, and their status bytes
 pub record Soundness : Type 0 where
   -- each duration, and ticks left, are 1 to 1,000,000
   pub program : map (λ (x : ℕ). soundAnswer (delivered 0 x 5 9 2)) borders ≡ 6 ∷ 0 ∷ 0 ∷ 6 ∷ []
@@ -147,6 +153,7 @@ pub record Soundness : Type 0 where
   pub bits-deep : statusByte (of 3 0 false true Deep) ≡ 0x02
   pub bits-all : statusByte busy ≡ 0x97
 
+-- computed by the checker
 pub soundness : Soundness
 unfolding delivered zeroRecord latchAt sound soundAnswer statusByte figuresOf
 soundness = record {
@@ -185,6 +192,7 @@ damaged bytes v i = unpackAnswer (set bytes i v)
 abbrev pub places : List ℕ
 places = 0 ∷ 1 ∷ 2 ∷ 3 ∷ 4 ∷ 5 ∷ 6 ∷ 7 ∷ 8 ∷ 9 ∷ 10 ∷ 11 ∷ 12 ∷ 13 ∷ 14 ∷ 15 ∷ 16 ∷ 17 ∷ 18 ∷ 19 ∷ 20 ∷ 21 ∷ 22 ∷ 23 ∷ 24 ∷ 25 ∷ 26 ∷ 27 ∷ []
 
+-- what pack and unpack answer and hand back
 pub record Packings : Type 0 where
   -- both ways
   pub packs-busy : packOf busy ≡ busyBytes
@@ -212,9 +220,10 @@ pub record Packings : Type 0 where
   pub modes-deep : map (λ (m : ℕ). damaged deepBytes m 4) (0 ∷ 1 ∷ 2 ∷ 3 ∷ []) ≡ 0 ∷ 6 ∷ 0 ∷ 6 ∷ []
   pub modes-still : map (λ (m : ℕ). damaged stillBytes m 4) (0 ∷ 1 ∷ 2 ∷ 3 ∷ []) ≡ 0 ∷ 6 ∷ 6 ∷ 6 ∷ []
   pub latch-reset : damaged busyBytes 0 3 ≡ 6
-  -- a deep M25P40 as other parts: BP 6 is too high for the first two, and the M25P128 is never deep
+  -- a deep M25P32 as other parts: BP 6 is too high for the first two, and the M25P128 is never deep
   pub parts : map (λ (p : ℕ). damaged deepBytes p 0) (0 ∷ 1 ∷ 2 ∷ 3 ∷ 4 ∷ 5 ∷ []) ≡ 6 ∷ 6 ∷ 0 ∷ 0 ∷ 6 ∷ 6 ∷ []
 
+-- computed by the checker
 pub packings : Packings
 unfolding zeroRecord latchAt sound packOf fieldsOf formed packAnswer unpackAnswer unpackOf figuresOf
 packings = record {

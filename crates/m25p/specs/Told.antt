@@ -1,9 +1,9 @@
 -- The C calls told a second time, and computed: the answer's bits, W as a number, the order of the numbers, and which packed bytes are written.
 use mathlib.Core.Path.{_≡_, refl}
-use mathlib.Core.Bool.{Bool, true, false}
-use mathlib.Core.List.{List, [], _∷_, _++_, map}
+use mathlib.Core.Bool.{true, false}
+use mathlib.Core.List.{List, [], _∷_, map}
 use Prim.Native.Nat.{ℕ}
-use lib.ListN.{set, take, replicate}
+use lib.ListN.{replicate}
 use Rattle.slices.specs.Changed.{mapAt, window, sumAt}
 use Rattle.parts.specs.Parts.{figuresOf}
 use Rattle.parts.specs.Protected.{protectedOf, columnOf, uncelled}
@@ -36,13 +36,15 @@ after bytes s =
     (transactedC bytes (replicate 4096 0xFF) s 0 1 (replicate 8 0) .device)
     bytes
 
--- the packed bytes after a wait, and after power-up
+-- the packed bytes after a wait
 abbrev pub waited-on : List ℕ → ℕ → List ℕ
 waited-on bytes t = packedBy (checkedC (λ (d : Device). waitCall d t) bytes .answer) (checkedC (λ (d : Device). waitCall d t) bytes .device) bytes
 
+-- the packed bytes after power-up
 abbrev pub powered-on : List ℕ → List ℕ
 powered-on bytes = packedBy (checkedC powerUpCall bytes .answer) (checkedC powerUpCall bytes .device) bytes
 
+-- what the calls answer and write
 pub record Told : Type 0 where
   -- bits 0 to 7 the number, 8 to 15 first, 16 to 47 count
   pub bits : packedAnswer (record { number = 0x12; first = 0x05; count = 0x1FFFB }) ≡ 0x1FFFB0512

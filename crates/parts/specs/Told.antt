@@ -1,6 +1,6 @@
 -- Document 01's two tables told a second time, column by column, and computed: the five parts' figures, and the protected sectors.
 use mathlib.Core.Path.{_≡_, refl}
-use mathlib.Core.Bool.{Bool, true, false}
+use mathlib.Core.Bool.{true, false}
 use mathlib.Core.List.{List, [], _∷_, map}
 use Prim.Native.Nat.{ℕ}
 use Rattle.parts.specs.declared.Figures.{Figures}
@@ -15,6 +15,7 @@ column figure = map (λ (p : ℕ). figure (figuresOf p)) (0 ∷ 1 ∷ 2 ∷ 3 �
 abbrev pub protects : ℕ → List ℕ
 protects sectors = map (protectedOf sectors) (0 ∷ 1 ∷ 2 ∷ 3 ∷ 4 ∷ 5 ∷ 6 ∷ 7 ∷ 8 ∷ [])
 
+-- what the tables say
 pub record Told : Type 0 where
   -- 'The five parts'
   pub bytes : column (λ (f : Figures). f .bytes) ≡ 4096 ∷ 131072 ∷ 524288 ∷ 4194304 ∷ 16777216 ∷ []
