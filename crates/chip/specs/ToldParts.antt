@@ -250,7 +250,7 @@ pub record Places : Type 0 where
   pub page-m25p128 : become 4 (program 0xFFFFFF) (0xFFFEFF ∷ 0xFFFF00 ∷ 0xFFFF01 ∷ 0xFFFFFF ∷ 0x000000 ∷ []) ≡ 0x3C ∷ 0x30 ∷ 0x3C ∷ 0x18 ∷ 0x3C ∷ []
   -- BE: every byte
   pub bulk : become 3 (0xC7 ∷ []) (0x000000 ∷ 0x3FFFFF ∷ []) ≡ 0xFF ∷ 0xFF ∷ []
-  -- a cycle: its area, its address where that counts, and slots where there is data, all FF at first, a later byte in place of an earlier one
+  -- a cycle: its kind, its address where that counts, and slots where there is data, all FF at first, a later byte in place of an earlier one
   pub cycle-page : cycleOf Page 0x1FF (program 0x0001FF) ≡ record { kind = Page; address = 0x1FF; slots = 0xF0 ∷ (replicate 254 0xFF ++ (0x5A ∷ [])) }
   pub cycle-sector : cycleOf Sector 0x1FF (erase 0x0001FF) ≡ record { kind = Sector; address = 0x1FF; slots = replicate 256 0 }
   pub cycle-all : cycleOf All 0x1FF (0xC7 ∷ []) ≡ record { kind = All; address = 0; slots = replicate 256 0 }
