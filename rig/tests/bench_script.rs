@@ -3,16 +3,18 @@
 
 #[path = "support/common.rs"]
 mod common;
+#[path = "support/place.rs"]
+mod place;
 #[path = "support/pty.rs"]
 mod pty;
 
 use std::fs::{self, File};
 use std::io::{BufRead, BufReader, Read, Write};
-use std::os::unix::fs::{symlink, PermissionsExt};
-use std::path::{Path, PathBuf};
-use std::process::{Child, Command, Output, Stdio};
+use std::os::unix::fs::symlink;
+use std::process::{Output, Stdio};
 
-use common::{eventually, scratch, send_signal, SIGTERM};
+use common::{eventually, scratch, send_signal};
+use place::{ended, Place, ENDS};
 use pty::{Seat, CTRL_C, CTRL_D};
 use rig::bench_model;
 
@@ -20,114 +22,6 @@ const EXAMPLE: &str = include_str!("../../examples/first.txt");
 const UNWRITTEN: &str =
     "bench: not all answers could be written: standard output is full, closed or \
                          no longer read\n";
-
-/// Stands in for rt. `rt check` takes as long as there is no file `go`, with two processes that do not
-/// heed Ctrl-C, and succeeds unless there is a file `wrong`.
-const STAND_IN: &str = r#"#!/bin/sh
-[ "$1" = check ] || exec "$REAL_RT" "$@"
-echo called >>target/calls
-echo 'fn slices::least: proved'
-echo 'rt: slices proved (5 s)'
-(trap '' INT; while [ ! -e go ]; do sleep 0.05; done) &
-(trap '' INT; while [ ! -e go ]; do sleep 0.05; done) &
-wait
-[ ! -e wrong ] || { echo 'rt: bench NOT PROVED (exit 1, 3 s)'; exit 1; }
-echo 'rt: ok, 7 crates proved'
-"#;
-
-/// A place with the script and the proved program, and nothing to prove but an empty crate.
-struct Place {
-    directory: PathBuf,
-    path: String,
-    real: PathBuf,
-}
-
-/// Where rt is; without it the test is told as skipped.
-fn rt(test: &str) -> Option<PathBuf> {
-    let directories = std::env::var_os("PATH").unwrap_or_default();
-    let found = std::env::split_paths(&directories).map(|path| path.join("rt"));
-    let found = found.into_iter().find(|path| path.is_file());
-    if found.is_none() {
-        rig::tell(&format!(
-            "skipped: {test} needs the Rattle kit's rt, which is not on this machine"
-        ));
-    }
-    found
-}
-
-impl Place {
-    /// As it is after the first run.
-    fn proved(test: &str) -> Option<Place> {
-        let place = Place::unproved(test)?;
-        File::create(place.file("target/bench.proved")).unwrap();
-        Some(place)
-    }
-
-    /// As it is before the first run.
-    fn unproved(test: &str) -> Option<Place> {
-        let real = rt(test)?;
-        let directory = scratch(&format!("bench_{test}"));
-        for part in ["crates/bench", "target/bin", "stand-in"] {
-            fs::create_dir_all(directory.join(part)).unwrap();
-        }
-        let root = Path::new(env!("CARGO_MANIFEST_DIR")).join("..");
-        let program = match std::env::var_os("M25P_BENCH") {
-            Some(path) => PathBuf::from(path),
-            None => root.join("target/bin/bench"),
-        };
-        assert!(program.is_file(), "There is no {}: run `rt check bench`.", program.display());
-        fs::copy(program, directory.join("target/bin/bench")).unwrap();
-        fs::copy(root.join("bench"), directory.join("bench")).unwrap();
-        fs::write(directory.join("crates.txt"), "bench:\n").unwrap();
-        let stand_in = directory.join("stand-in/rt");
-        fs::write(&stand_in, STAND_IN).unwrap();
-        fs::set_permissions(&stand_in, fs::Permissions::from_mode(0o755)).unwrap();
-        let path = std::env::var("PATH").unwrap_or_default();
-        let path = format!("{}:{path}", directory.join("stand-in").display());
-        Some(Place { directory, path, real })
-    }
-
-    fn file(&self, name: &str) -> PathBuf {
-        self.directory.join(name)
-    }
-
-    /// A shell command in the place, with a mark that all it starts inherits.
-    fn shell(&self, text: &str) -> Command {
-        let mut command = Command::new("sh");
-        command.arg("-c").arg(text).current_dir(&self.directory).env("PATH", &self.path);
-        command.env("REAL_RT", &self.real).env("BENCH_PLACE", &self.directory);
-        command
-    }
-
-    /// Runs the shell command to its end on a file with these lines.
-    fn run(&self, text: &str, lines: &str) -> Output {
-        fs::write(self.file("lines"), lines).unwrap();
-        self.shell(text).stdin(File::open(self.file("lines")).unwrap()).output().unwrap()
-    }
-
-    /// The script with a pipe at each end.
-    fn start(&self) -> Child {
-        let mut command = self.shell("exec ./bench");
-        command.stdin(Stdio::piped()).stdout(Stdio::piped()).stderr(Stdio::piped());
-        command.spawn().unwrap()
-    }
-
-    /// The processes that came of the script, by the mark in their environment.
-    fn processes(&self) -> Vec<u32> {
-        let mark = format!("BENCH_PLACE={}\0", self.directory.display());
-        let number = |entry: fs::DirEntry| entry.file_name().to_str()?.parse().ok();
-        let marked = |process: &u32| {
-            let environment = fs::read(format!("/proc/{process}/environ")).unwrap_or_default();
-            String::from_utf8_lossy(&environment).contains(&mark)
-        };
-        let all = fs::read_dir("/proc").unwrap().filter_map(Result::ok).filter_map(number);
-        all.filter(marked).collect()
-    }
-
-    fn nothing_runs(&self) {
-        assert_eq!(self.processes(), [], "nothing is left running");
-    }
-}
 
 fn said(output: &Output) -> (Option<i32>, &str, &str) {
     let text = |bytes| std::str::from_utf8(bytes).unwrap();
@@ -164,7 +58,7 @@ fn answers_that_cannot_be_written() {
     let input = child.stdin.take();
     let mut told = String::new();
     child.stderr.take().unwrap().read_to_string(&mut told).unwrap();
-    assert_eq!((told.as_str(), child.wait().unwrap().code()), (UNWRITTEN, Some(1)));
+    assert_eq!((told.as_str(), ended(&mut child)), (UNWRITTEN, Some(1)));
     drop(input);
 }
 
@@ -223,26 +117,26 @@ fn at_a_terminal() {
     }
     seat.types(CTRL_D);
     seat.sees("end 2\r\n");
-    assert_eq!(seat.child.wait().unwrap().code(), Some(0));
+    assert_eq!(ended(&mut seat.child), Some(0));
 
     let mut seat = Seat::start(place.shell("exec ./bench"));
     seat.sees("n ans q\r\n");
     seat.types(CTRL_C);
-    assert_eq!(seat.child.wait().unwrap().code(), Some(130));
+    assert_eq!(ended(&mut seat.child), Some(130));
     place.nothing_runs();
 }
 
 #[test]
 fn signals_end_the_program() {
     let Some(place) = Place::proved("signals") else { return };
-    for (signal, status) in [(1, 129), (2, 130), (3, 131), (SIGTERM, 143)] {
+    for (signal, status) in ENDS {
         let mut child = place.start();
         let input = child.stdin.take();
         let mut header = String::new();
         BufReader::new(child.stdout.take().unwrap()).read_line(&mut header).unwrap();
         assert_eq!((header.as_str(), place.processes().len() > 1), ("n ans q\n", true));
         send_signal(child.id(), signal);
-        assert_eq!(child.wait().unwrap().code(), Some(status));
+        assert_eq!(ended(&mut child), Some(status));
         place.nothing_runs();
         drop(input);
     }
@@ -265,7 +159,7 @@ fn the_first_run_shows_what_is_proved() {
     let mut answers = String::new();
     child.stdout.take().unwrap().read_to_string(&mut answers).unwrap();
     assert_eq!(answers, bench_model::output(EXAMPLE.as_bytes()));
-    assert!(child.wait().unwrap().success());
+    assert_eq!(ended(&mut child), Some(0));
     let log = fs::read_to_string(place.file("target/bench.log")).unwrap();
     assert!(log.contains("fn slices::least: proved\n"));
 
@@ -298,20 +192,20 @@ fn signals_end_the_prover() {
     let Some(place) = Place::unproved("prover") else { return };
     let rooms = place.file("rooms");
     fs::create_dir(&rooms).unwrap();
-    for (signal, status) in [(1, 129), (2, 130), (3, 131), (SIGTERM, 143)] {
+    for (signal, status) in ENDS {
         let mut command = place.shell("exec ./bench");
         command.env("TMPDIR", &rooms).stdin(Stdio::null()).stderr(Stdio::null());
         let mut child = command.spawn().unwrap();
         eventually("the prover runs", || place.processes().len() > 6);
         send_signal(child.id(), signal);
-        assert_eq!(child.wait().unwrap().code(), Some(status));
+        assert_eq!(ended(&mut child), Some(status));
         place.nothing_runs();
         assert_eq!(fs::read_dir(&rooms).unwrap().count(), 0, "no temporary files are left");
     }
     let mut seat = Seat::start(place.shell("exec ./bench"));
     seat.sees("rt: slices proved (5 s)\r\n");
     seat.types(CTRL_C);
-    assert_eq!(seat.child.wait().unwrap().code(), Some(130));
+    assert_eq!(ended(&mut seat.child), Some(130));
     place.nothing_runs();
     File::create(place.file("go")).unwrap();
     assert!(said(&place.run("./bench", EXAMPLE)).2.contains("proved and built"));
@@ -333,7 +227,7 @@ fn two_at_once() {
         let mut answers = String::new();
         child.stdout.take().unwrap().read_to_string(&mut answers).unwrap();
         assert_eq!(answers, "n ans q\n1 0 -\nend 1\n");
-        assert!(child.wait().unwrap().success());
+        assert_eq!(ended(child), Some(0));
     }
     assert_eq!(fs::read_to_string(place.file("target/calls")).unwrap(), "called\n");
 }
