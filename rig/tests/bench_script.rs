@@ -9,12 +9,12 @@ mod place;
 mod pty;
 
 use std::fs::{self, File};
-use std::io::{BufRead, BufReader, Read, Write};
+use std::io::{Read, Write};
 use std::os::unix::fs::symlink;
 use std::process::{Output, Stdio};
 
 use common::{eventually, scratch, send_signal};
-use place::{ended, Place, ENDS};
+use place::{ended, lines, Place, ENDS};
 use pty::{Seat, CTRL_C, CTRL_D};
 use rig::bench_model;
 
@@ -132,9 +132,8 @@ fn signals_end_the_program() {
     for (signal, status) in ENDS {
         let mut child = place.start();
         let input = child.stdin.take();
-        let mut header = String::new();
-        BufReader::new(child.stdout.take().unwrap()).read_line(&mut header).unwrap();
-        assert_eq!((header.as_str(), place.processes().len() > 1), ("n ans q\n", true));
+        let header = lines(child.stdout.take().unwrap())();
+        assert_eq!((header.as_deref(), place.processes().len() > 1), (Some("n ans q"), true));
         send_signal(child.id(), signal);
         assert_eq!(ended(&mut child), Some(status));
         place.nothing_runs();
@@ -148,8 +147,8 @@ fn the_first_run_shows_what_is_proved() {
     let Some(place) = Place::unproved("first") else { return };
     let mut child = place.start();
     child.stdin.take().unwrap().write_all(EXAMPLE.as_bytes()).unwrap();
-    let mut lines = BufReader::new(child.stderr.take().unwrap()).lines().map(Result::unwrap);
-    let mut next = || lines.next().unwrap_or_default();
+    let mut told = lines(child.stderr.take().unwrap());
+    let mut next = || told().unwrap_or_default();
     assert_eq!(next(), "bench: proving and building, once (a few minutes)");
     assert_eq!(next(), "rt: slices proved (5 s)");
     assert!(!place.file("target/bench.proved").exists(), "the proof goes on");
@@ -218,9 +217,9 @@ fn two_at_once() {
     let mut first = place.start();
     eventually("the first proves", || place.file("target/calls").exists());
     let mut second = place.start();
-    let mut waits = BufReader::new(second.stderr.take().unwrap()).lines();
+    let mut told = lines(second.stderr.take().unwrap());
     let sentence = "bench: another run of bench is proving here; this one waits for it";
-    assert_eq!(waits.next().unwrap().unwrap(), sentence);
+    assert_eq!(told().as_deref(), Some(sentence));
     File::create(place.file("go")).unwrap();
     for child in [&mut first, &mut second] {
         child.stdin.take().unwrap().write_all(b"p\n").unwrap();

@@ -2,12 +2,15 @@
 //! has started can be seen.
 
 use std::fs::{self, File};
+use std::io::{BufRead, BufReader, Read};
 use std::os::unix::fs::PermissionsExt;
 use std::os::unix::process::CommandExt;
 use std::path::{Path, PathBuf};
 use std::process::{Child, Command, Output, Stdio};
+use std::sync::mpsc::{channel, RecvTimeoutError};
+use std::thread;
 
-use super::common::{eventually, scratch, send_signal, SIGTERM};
+use super::common::{eventually, scratch, send_signal, PATIENCE, SIGTERM};
 
 /// Stands in for rt. `rt check` takes as long as there is no file `go`, with two processes that do not
 /// heed Ctrl-C, and succeeds unless there is a file `wrong`.
@@ -155,4 +158,16 @@ pub fn ended(child: &mut Child) -> Option<i32> {
         status.is_some()
     });
     status.unwrap().code()
+}
+
+/// Hands over one line after the other, each as soon as it is there; at the end none.
+pub fn lines(stream: impl Read + Send + 'static) -> impl FnMut() -> Option<String> {
+    let (sender, lines) = channel();
+    let each = BufReader::new(stream).lines().map_while(Result::ok);
+    thread::spawn(move || each.into_iter().try_for_each(|line| sender.send(line)));
+    move || match lines.recv_timeout(PATIENCE) {
+        Ok(line) => Some(line),
+        Err(RecvTimeoutError::Disconnected) => None,
+        Err(RecvTimeoutError::Timeout) => panic!("a line does not come in time"),
+    }
 }
