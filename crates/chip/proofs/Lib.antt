@@ -2,6 +2,6 @@
 pub mod Verdicts
 pub mod Lines
 pub mod Records
+pub mod Laws
 pub mod Rules
 pub mod Worked
-pub mod Laws

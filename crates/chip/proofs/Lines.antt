@@ -56,40 +56,41 @@ pub record Reads (r : Row) : Type 0 where
 
 pub record RowLaws (r : Row) : Type 0 where
   pub coded : 1 ≤ r .from
+  pub soon : r .from ≤ 5
   pub late : earliest (r .drive) ≤ r .from
   pub reads : (r .drive ≡ Nothing) ⊎ Reads r
 
-quiet-laws : (r : Row) → r .drive ≡ Nothing → 1 ≤ r .from → RowLaws r
-quiet-laws r e h = record { coded = h; late = rw e h; reads = inl e }
+quiet-laws : (r : Row) → r .drive ≡ Nothing → 1 ≤ r .from → r .from ≤ 5 → RowLaws r
+quiet-laws r e h k = record { coded = h; soon = k; late = rw e h; reads = inl e }
 
-reading-laws : (n : ℕ) (dr : Drive) (k : ℕ) (b s : Bool) (t : Turn) → 1 ≤ k → earliest dr ≤ k → n ≤ k → writesSettings t ≡ false → RowLaws (reading n dr k b s t)
-reading-laws n dr k b s t c l e u =
-    record { coded = c; late = l; reads = inr (record { enough = e; unbounded = refl; pulsed = refl; unlatched = refl; nowhere = refl; unsettling = u }) }
+reading-laws : (n : ℕ) (dr : Drive) (k : ℕ) (b s : Bool) (t : Turn) → 1 ≤ k → k ≤ 5 → earliest dr ≤ k → n ≤ k → writesSettings t ≡ false → RowLaws (reading n dr k b s t)
+reading-laws n dr k b s t c m l e u =
+    record { coded = c; soon = m; late = l; reads = inr (record { enough = e; unbounded = refl; pulsed = refl; unlatched = refl; nowhere = refl; unsettling = u }) }
 
 unknown-laws : RowLaws unknown
-unknown-laws = quiet-laws unknown refl (lit≤ tt)
+unknown-laws = quiet-laws unknown refl (lit≤ tt) (lit≤ tt)
 
 order-laws : (t : Turn) → RowLaws (order t)
-order-laws t = quiet-laws (order t) refl (lit≤ tt)
+order-laws t = quiet-laws (order t) refl (lit≤ tt) (lit≤ tt)
 
 write-laws : (n m : ℕ) (a : Area) (t : Turn) → RowLaws (write n m a t)
-write-laws n m a t = quiet-laws (write n m a t) refl (lit≤ tt)
+write-laws n m a t = quiet-laws (write n m a t) refl (lit≤ tt) (lit≤ tt)
 
 pub row-laws : (f : Figures) (code : ℕ) → RowLaws (rowOf f code)
 unfolding rowOf
 row-laws f code =
     cond-ind RowLaws (eqb code 0x06) (order-laws Enable)
     (cond-ind RowLaws (eqb code 0x04) (order-laws Disable)
-    (cond-ind RowLaws (eqb code 0x9F) (reading-laws 1 Identification 1 false false Keep (lit≤ tt) (lit≤ tt) (lit≤ tt) refl)
-    (cond-ind RowLaws (eqb code 0x05) (reading-laws 1 Status 1 true false Keep (lit≤ tt) (lit≤ tt) (lit≤ tt) refl)
+    (cond-ind RowLaws (eqb code 0x9F) (reading-laws 1 Identification 1 false false Keep (lit≤ tt) (lit≤ tt) (lit≤ tt) (lit≤ tt) refl)
+    (cond-ind RowLaws (eqb code 0x05) (reading-laws 1 Status 1 true false Keep (lit≤ tt) (lit≤ tt) (lit≤ tt) (lit≤ tt) refl)
     (cond-ind RowLaws (eqb code 0x01) (write-laws 2 2 Nowhere Settings)
-    (cond-ind RowLaws (eqb code 0x03) (reading-laws 4 Array 4 false false Keep (lit≤ tt) (lit≤ tt) (lit≤ tt) refl)
-    (cond-ind RowLaws (eqb code 0x0B) (reading-laws 5 Array 5 false false Keep (lit≤ tt) (lit≤ tt) (lit≤ tt) refl)
+    (cond-ind RowLaws (eqb code 0x03) (reading-laws 4 Array 4 false false Keep (lit≤ tt) (lit≤ tt) (lit≤ tt) (lit≤ tt) refl)
+    (cond-ind RowLaws (eqb code 0x0B) (reading-laws 5 Array 5 false false Keep (lit≤ tt) (lit≤ tt) (lit≤ tt) (lit≤ tt) refl)
     (cond-ind RowLaws (eqb code 0x02) (write-laws _ _ _ _)
     (cond-ind RowLaws (eqb code 0xD8) (write-laws _ _ _ _)
     (cond-ind RowLaws (eqb code 0xC7) (write-laws _ _ _ _)
     (cond-ind RowLaws (eqb code 0xB9) (cond-ind RowLaws (f .sleeps) (order-laws Sleep) unknown-laws)
-    (cond-ind RowLaws (eqb code 0xAB) (cond-ind RowLaws (f .sleeps) (reading-laws 1 Signature 4 false true Wake (lit≤ tt) (lit≤ tt) (lit≤ tt) refl) unknown-laws)
+    (cond-ind RowLaws (eqb code 0xAB) (cond-ind RowLaws (f .sleeps) (reading-laws 1 Signature 4 false true Wake (lit≤ tt) (lit≤ tt) (lit≤ tt) (lit≤ tt) refl) unknown-laws)
     unknown-laws)))))))))))
 
 -- a row that needs the latch, a still clock or an exact n drives nothing
@@ -240,6 +241,20 @@ module _ (d : Device) (array sent : List ℕ) where
   span-is Status e = span-on (λ k. rw e)
   span-is Array e = span-on (λ k. rw e)
   span-is Signature e = span-on (λ k. rw e)
+
+  -- the first driven position is at most 5: after the code, the address and one byte more
+  pub first-soon : firstOf d array sent ≤ 5
+  first-soon = rw (← span-is (heardRow d sent .drive) refl .0) (span-soon (heardRow d sent .drive))
+    where
+      from-soon : fromOn (heardRow d sent .from) (length sent) .first ≤ 5
+      from-soon = cond-ind (λ (s : Span). s .first ≤ 5) (ltb (heardRow d sent .from) (length sent)) (heard-laws d sent .soon) (lit≤ tt)
+
+      span-soon : (dr : Drive) → spanOf dr (heardRow d sent .from) (length sent) .first ≤ 5
+      span-soon Nothing = lit≤ tt
+      span-soon Identification = from-soon
+      span-soon Status = from-soon
+      span-soon Array = from-soon
+      span-soon Signature = from-soon
 
 -- ---- the answer, the response and what was driven
 

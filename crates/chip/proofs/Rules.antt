@@ -26,6 +26,7 @@ use Rattle.chip.specs.declared.table.Turn.the-variants.{Keep}
 use Rattle.chip.specs.declared.table.Drive.{Drive}
 use Rattle.chip.specs.declared.table.Drive.the-variants.{Nothing, Identification, Status, Array, Signature}
 use Rattle.chip.specs.declared.table.Row.{Row}
+use Rattle.chip.specs.declared.Answer.{Answer}
 use Rattle.chip.specs.declared.answers.Verdict.{Verdict}
 use Rattle.chip.specs.declared.answers.Verdict.the-variants.{Refused, Ignored, Executed}
 use Rattle.chip.specs.Table.{addressOf}
@@ -35,6 +36,8 @@ use Rattle.chip.specs.Change.{touchedIn, touched, cycleOf, turned}
 use Rattle.chip.specs.Outcome.{Outcome, outcomeOf, transacted}
 use Rattle.chip.proofs.Verdicts.{Host, Taken, Decision, refuses, ignores, executes, verdict-is, not-refused, not-ignored}
 use Rattle.slices.proofs.Choices.{cond-ind}
+use Rattle.chip.proofs.Lines.{first-soon}
+use Rattle.chip.proofs.Laws.{count-le}
 use Rattle.chip.proofs.Records.{turn-law, turned-sound, SameMake, SameSettings, turned-make, turned-settings}
 
 -- ---- the numbers
@@ -60,21 +63,27 @@ host-number d array n pulses response =
     (cond-ind OfHost (ltb 65536 n) (refl, lit≤ tt)
     (cond-ind OfHost (ltb 7 pulses) (refl, lit≤ tt) (cond-ind OfHost (ltb response n) (refl, lit≤ tt) (refl, lit≤ tt)))))
 
--- a number of the chip that is not 0 is at least 11
+-- a number of the chip is at most 18, and at least 11 where it is not 0
 abbrev OfChip : ℕ → Type 0
-OfChip k = (listed k numbers ≡ true) × ((k ≡ 0 → ⊥) → 11 ≤ k)
+OfChip k = (listed k numbers ≡ true) × ((k ≡ 0 → ⊥) → 11 ≤ k) × (k ≤ 18)
 
 chip-number : (d : Device) (r : Row) (n pulses : ℕ) (w : Bool) (at : ℕ) → OfChip (ignorance d r n pulses w at)
 unfolding ignorance
 chip-number d r n pulses w at =
-    cond-ind OfChip (eqb n 0) (refl, λ h. lit≤ tt)
-    (cond-ind OfChip (not (r .known)) (refl, λ h. lit≤ tt)
-    (cond-ind OfChip (isBusy (d .mode) && not (r .busy)) (refl, λ h. lit≤ tt)
-    (cond-ind OfChip (isDeep (d .mode) && not (r .deep)) (refl, λ h. lit≤ tt)
-    (cond-ind OfChip (not (asNeeded r n pulses)) (refl, λ h. lit≤ tt)
-    (cond-ind OfChip (r .latch && not (d .latch)) (refl, λ h. lit≤ tt)
-    (cond-ind OfChip (guarded (r .area) (figuresOf (d .part)) (d .bp) at) (refl, λ h. lit≤ tt)
-    (cond-ind OfChip (writesSettings (r .turn) && d .srwd && not w) (refl, λ h. lit≤ tt) (refl, λ h. absurd (h refl)))))))))
+    cond-ind OfChip (eqb n 0) (refl, λ h. lit≤ tt, lit≤ tt)
+    (cond-ind OfChip (not (r .known)) (refl, λ h. lit≤ tt, lit≤ tt)
+    (cond-ind OfChip (isBusy (d .mode) && not (r .busy)) (refl, λ h. lit≤ tt, lit≤ tt)
+    (cond-ind OfChip (isDeep (d .mode) && not (r .deep)) (refl, λ h. lit≤ tt, lit≤ tt)
+    (cond-ind OfChip (not (asNeeded r n pulses)) (refl, λ h. lit≤ tt, lit≤ tt)
+    (cond-ind OfChip (r .latch && not (d .latch)) (refl, λ h. lit≤ tt, lit≤ tt)
+    (cond-ind OfChip (guarded (r .area) (figuresOf (d .part)) (d .bp) at) (refl, λ h. lit≤ tt, lit≤ tt)
+    (cond-ind OfChip (writesSettings (r .turn) && d .srwd && not w) (refl, λ h. lit≤ tt, lit≤ tt) (refl, λ h. absurd (h refl), lit≤ tt))))))))
+
+-- what an answer's numbers are at most: the number 18, the first driven position 5, the count 65,536
+pub record Few (a : Answer) : Type 0 where
+  pub number : a .number ≤ 18
+  pub first : a .first ≤ 5
+  pub count : a .count ≤ 65536
 
 -- ---- bytes
 
@@ -185,6 +194,15 @@ module _ (d : Device) (array sent : List ℕ) (pulses : ℕ) (w : Bool) (respons
       outcome-ind (λ (o : Outcome). listed (o .answer .number) numbers ≡ true)
       (λ a. host-number d (length array) (length sent) pulses (length response) .0)
       (λ h b. chip-number d (rowIn d sent) (length sent) pulses w (addressOf (figuresOf (d .part)) sent) .0) (λ h t. refl)
+
+  -- the answer's numbers are few
+  pub answer-few : Few (out .answer)
+  unfolding outcomeOf
+  answer-few =
+      outcome-ind (λ (o : Outcome). Few (o .answer))
+      (λ a. record { number = omega (arith, host-number d (length array) (length sent) pulses (length response) .1); first = lit≤ tt; count = lit≤ tt })
+      (λ h b. record { number = chip-number d (rowIn d sent) (length sent) pulses w (addressOf (figuresOf (d .part)) sent) .2; first = lit≤ tt; count = lit≤ tt })
+      (λ h t. record { number = lit≤ tt; first = first-soon d array sent; count = omega (arith, count-le d array sent, h .short) })
 
   -- with any other answer than 0 the record and the array stay, and nothing is driven
   pub only-zero-changes : (out .answer .number ≡ 0 → ⊥) → (out .device ≡ d) × (out .array ≡ array) × (out .answer .first ≡ 0) × (out .answer .count ≡ 0)

@@ -16,7 +16,7 @@ pub struct Cycle {
 }
 
 // The cycle of a transaction.
-pub fn cycle_of(area: Area, at: u32, sent: &[u8]) -> Cycle
+pub(crate) fn cycle_of(area: Area, at: u32, sent: &[u8]) -> Cycle
     ensures { λ r. ⌜ r ≡ cycleOf area at (now (sent .entry)) ⌝ }
 {
     match area {
@@ -48,7 +48,7 @@ pub fn cycle_of(area: Area, at: u32, sent: &[u8]) -> Cycle
 }
 
 // Carries a cycle out.
-pub fn complete(figures: Figures, cycle: Cycle, array: &mut [u8])
+pub(crate) fn complete(figures: Figures, cycle: Cycle, array: &mut [u8])
     ensures { λ _. ⌜ now (array .exit) ≡ mapAt (touched figures cycle) (now (array .entry)) ⌝ }
 {
     let size = figures.sector_bytes;
@@ -75,7 +75,7 @@ fn bp_in(figures: Figures, b: u8) -> u8
 }
 
 // The record after an executed instruction whose byte 1 is `b`.
-pub fn next_record(turn: Turn, device: Device, b: u8) -> Device
+pub(crate) fn next_record(turn: Turn, device: Device, b: u8) -> Device
     ensures { λ r. ⌜ r ≡ turned turn device b ⌝ }
 {
     match turn {

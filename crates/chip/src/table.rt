@@ -128,7 +128,7 @@ impl Row {
     }
 
     // The row where a test holds, else as for an unknown code.
-    pub fn only_if(self, test: bool) -> Self
+    pub(crate) fn only_if(self, test: bool) -> Self
         ensures { λ r. ⌜ r ≡ cond test self unknown ⌝ }
     {
         if test { self } else { Row::unknown() }
@@ -136,7 +136,7 @@ impl Row {
 }
 
 // The row of a code.
-pub fn decode(figures: Figures, code: u8) -> Row
+pub(crate) fn decode(figures: Figures, code: u8) -> Row
     ensures { λ r. ⌜ r ≡ rowOf figures code ⌝ }
 {
     match code {
@@ -166,7 +166,7 @@ fn joined(high: u8, middle: u8, low: u8) -> usize
 }
 
 // The address in a transaction, within the part.
-pub fn address(figures: Figures, sent: &[u8]) -> u32
+pub(crate) fn address(figures: Figures, sent: &[u8]) -> u32
     ensures { λ r. ⌜ r ≡ addressOf figures (now (sent .entry)) ⌝ }
 {
     let high = slices::byte_at(sent, 1);

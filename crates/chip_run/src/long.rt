@@ -3,7 +3,7 @@ use crate::steps;
 use crate::text;
 
 // 65,536 bytes, a read from 000000 on: executed, 65,532 driven, rolling over 15 times; the last is that of 000FFB, and the response byte after it is untouched.
-pub fn longest() {
+pub(crate) fn longest() {
     let mut sent = [0; 65_536];
     sent[0] = 3;
     let mut a = [0; 4096];
@@ -29,7 +29,7 @@ pub fn longest() {
 }
 
 // 257 data bytes from `slot` of page 0 on, FF between the first and the last: the last stands in the slot that the first had, not the two anded.
-pub fn last_wins(name: &[u8], slot: u8, first: u8, last: u8) {
+pub(crate) fn last_wins(name: &[u8], slot: u8, first: u8, last: u8) {
     let mut sent = [0xFF; 261];
     sent[0] = 2;
     sent[1] = 0;

@@ -68,7 +68,7 @@ fn rows(d: Device, a: &mut [u8], b: &mut [u8], sectors: u32, size: u32, count: u
 }
 
 // A part's rows on one line.
-pub fn table(
+pub(crate) fn table(
     name: &[u8],
     part: u32,
     a: &mut [u8],

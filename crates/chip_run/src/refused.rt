@@ -28,7 +28,7 @@ fn delivery(name: &[u8], part: u32, a: &mut [u8], program: u32, write_status: u3
 }
 
 // Deliveries that are refused, in the order of the checks 1, 2, 7, and one that is not.
-pub fn deliveries() {
+pub(crate) fn deliveries() {
     let mut a = [0; 4096];
     let mut short = [0; 4095];
     // part above 4: 1
@@ -49,7 +49,7 @@ pub fn deliveries() {
 }
 
 // An array that is one byte short: 2, before the 4 of eight further pulses.
-pub fn array_length() {
+pub(crate) fn array_length() {
     let mut a = [0; 4096];
     let mut b = [0; 4096];
     let mut short_a = [0; 4095];
@@ -71,7 +71,7 @@ pub fn array_length() {
 }
 
 // A response of three bytes: eight further pulses give 4, four bytes sent give 5, three are executed.
-pub fn response_short() {
+pub(crate) fn response_short() {
     let mut a = [0; 4096];
     let mut b = [0; 4096];
     let mut r = [0; 3];
@@ -102,7 +102,7 @@ pub fn response_short() {
 }
 
 // 65,537 bytes: 3, before the 4 of eight further pulses and the 5 of a short response.
-pub fn too_many() {
+pub(crate) fn too_many() {
     let sent = [5; 65_537];
     let mut a = [0; 4096];
     let mut b = [0; 4096];

@@ -38,7 +38,7 @@ fn same_bool(a: bool, b: bool) -> bool {
 }
 
 // Whether two records are the same, field by field.
-pub fn same_record(d: Device, e: Device) -> bool {
+pub(crate) fn same_record(d: Device, e: Device) -> bool {
     let m = d.mode;
     let n = e.mode;
     let modes = mode_number(m) == mode_number(n);
@@ -142,7 +142,7 @@ fn compared(
 }
 
 // One transaction through both entries. Until the second entry runs, its array is what the first one's was before.
-pub fn exchange(
+pub(crate) fn exchange(
     t: Two,
     a: &mut [u8],
     b: &mut [u8],
@@ -211,7 +211,7 @@ fn power_up(t: Two) -> Two {
 }
 
 // A record with other settings and another latch, in standby.
-pub fn settings(d: Device, srwd: bool, bp: u8, latch: bool) -> Device {
+pub(crate) fn settings(d: Device, srwd: bool, bp: u8, latch: bool) -> Device {
     let settled = d.settled(srwd, bp);
     settled.moded(latch, Mode::Standby)
 }
@@ -233,7 +233,7 @@ fn set(t: Two, script: &[u8], at: usize) -> Two {
 }
 
 // Prints an array byte.
-pub fn print_byte(array: &[u8], at: usize) {
+pub(crate) fn print_byte(array: &[u8], at: usize) {
     io::write_all(1, b" ");
     io::print_hex(1, at as u64, 6);
     io::write_all(1, b" is ");
@@ -318,7 +318,7 @@ fn steps(
 }
 
 // Prints the name, and delivers a part to both entries with durations 3, 5, 9, 2 and the latch set.
-pub fn begin(name: &[u8], part: u32, a: &mut [u8], b: &mut [u8]) -> Two {
+pub(crate) fn begin(name: &[u8], part: u32, a: &mut [u8], b: &mut [u8]) -> Two {
     io::write_all(1, name);
     let x = chip::deliver(part, a, 3, 5, 9, 2);
     let y = chip::deliver(part, b, 3, 5, 9, 2);
@@ -334,7 +334,7 @@ pub fn begin(name: &[u8], part: u32, a: &mut [u8], b: &mut [u8]) -> Two {
 }
 
 // Back to standby with the latch set, whatever cycle runs.
-pub fn ready(t: Two) -> Two {
+pub(crate) fn ready(t: Two) -> Two {
     let d = t.by_value;
     let e = t.lent;
     let by_value = settings(d, false, 0, true);
@@ -347,12 +347,12 @@ pub fn ready(t: Two) -> Two {
 }
 
 // Ends the line.
-pub fn finish(t: Two) {
+pub(crate) fn finish(t: Two) {
     text::print_choice(t.same, b" same\n", b" differ\n");
 }
 
 // A whole case on a part whose array is lent twice.
-pub fn case(name: &[u8], part: u32, a: &mut [u8], b: &mut [u8], script: &[u8]) {
+pub(crate) fn case(name: &[u8], part: u32, a: &mut [u8], b: &mut [u8], script: &[u8]) {
     let mut sent = [0; 32];
     let mut r = [0; 40];
     let mut s = [0; 40];

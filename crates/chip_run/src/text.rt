@@ -3,39 +3,39 @@ use slices::byte_at;
 use slices::least;
 
 // A byte as a number to print.
-pub fn wide(x: u8) -> u64 {
+pub(crate) fn wide(x: u8) -> u64 {
     x as u64
 }
 
 // The value of a hexadecimal digit in capitals.
-pub fn digit(c: u8) -> u8 {
+pub(crate) fn digit(c: u8) -> u8 {
     if c < 58 { c % 16 } else { c % 16 + 9 }
 }
 
 // The place `k` characters after `at`.
-pub fn after(at: usize, k: usize) -> usize {
+pub(crate) fn after(at: usize, k: usize) -> usize {
     std::num::wrapping_add_usize(at, k)
 }
 
 // The byte that two hexadecimal digits stand for.
-pub fn pair(high: u8, low: u8) -> u8 {
+pub(crate) fn pair(high: u8, low: u8) -> u8 {
     high % 16 * 16 + low % 16
 }
 
 // The byte written by the two digits at `at`.
-pub fn pair_at(s: &[u8], at: usize) -> u8 {
+pub(crate) fn pair_at(s: &[u8], at: usize) -> u8 {
     let high = digit(byte_at(s, at));
     let low = digit(byte_at(s, after(at, 1)));
     pair(high, low)
 }
 
 // The number of an address of three bytes, high byte first.
-pub fn address(high: u8, middle: u8, low: u8) -> usize {
+pub(crate) fn address(high: u8, middle: u8, low: u8) -> usize {
     slices::word(low, middle, high, 0) as usize
 }
 
 // The address written by the six digits at `at`.
-pub fn address_at(s: &[u8], at: usize) -> usize {
+pub(crate) fn address_at(s: &[u8], at: usize) -> usize {
     let high = pair_at(s, at);
     let middle = pair_at(s, after(at, 2));
     let low = pair_at(s, after(at, 4));
@@ -43,7 +43,7 @@ pub fn address_at(s: &[u8], at: usize) -> usize {
 }
 
 // The place of the first semicolon from `from` on, or the end.
-pub fn stop(s: &[u8], from: usize) -> usize {
+pub(crate) fn stop(s: &[u8], from: usize) -> usize {
     let mut i = from;
     while i < s.len() {
         if s[i] == b';' {
@@ -55,12 +55,12 @@ pub fn stop(s: &[u8], from: usize) -> usize {
 }
 
 // How many bytes the digits between two places stand for.
-pub fn pairs(from: usize, end: usize) -> usize {
+pub(crate) fn pairs(from: usize, end: usize) -> usize {
     if from < end { (end - from) / 2 } else { 0 }
 }
 
 // The bytes that the digits between two places stand for, put at the start of `out` as far as it has room: how many.
-pub fn read_bytes(s: &[u8], from: usize, end: usize, out: &mut [u8]) -> usize {
+pub(crate) fn read_bytes(s: &[u8], from: usize, end: usize, out: &mut [u8]) -> usize {
     let n = least(pairs(from, end), out.len());
     let mut at = from;
     let mut i = 0;
@@ -73,13 +73,13 @@ pub fn read_bytes(s: &[u8], from: usize, end: usize, out: &mut [u8]) -> usize {
 }
 
 // The first `n` bytes, as far as there are any.
-pub fn front(s: &[u8], n: usize) -> &[u8] {
+pub(crate) fn front(s: &[u8], n: usize) -> &[u8] {
     let end = least(n, s.len());
     &s[..end]
 }
 
 // Whether each byte from `from` on is `v`.
-pub fn all_are(s: &[u8], from: usize, v: u8) -> bool {
+pub(crate) fn all_are(s: &[u8], from: usize, v: u8) -> bool {
     let mut i = from;
     while i < s.len() {
         if s[i] != v {
@@ -91,7 +91,7 @@ pub fn all_are(s: &[u8], from: usize, v: u8) -> bool {
 }
 
 // Prints bytes in hexadecimal.
-pub fn print_bytes(s: &[u8]) {
+pub(crate) fn print_bytes(s: &[u8]) {
     let mut i = 0;
     while i < s.len() {
         io::print_hex(1, wide(s[i]), 2);
@@ -100,7 +100,7 @@ pub fn print_bytes(s: &[u8]) {
 }
 
 // Prints the first `n` bytes in hexadecimal: a dash where there are none, and 16 with two dots where there are more.
-pub fn print_front(s: &[u8], n: usize) {
+pub(crate) fn print_front(s: &[u8], n: usize) {
     let count = least(n, s.len());
     if count == 0 {
         io::write_all(1, b"-");
@@ -113,7 +113,7 @@ pub fn print_front(s: &[u8], n: usize) {
 }
 
 // Prints the first text where a test holds, else the second.
-pub fn print_choice(test: bool, yes: &[u8], no: &[u8]) {
+pub(crate) fn print_choice(test: bool, yes: &[u8], no: &[u8]) {
     if test {
         io::write_all(1, yes);
     } else {
@@ -122,7 +122,7 @@ pub fn print_choice(test: bool, yes: &[u8], no: &[u8]) {
 }
 
 // Prints a space and a decimal number.
-pub fn print_number(n: u64) {
+pub(crate) fn print_number(n: u64) {
     io::write_all(1, b" ");
     io::print_decimal(1, n);
 }

@@ -158,9 +158,3 @@ as-delivered part array p s b t {c} d z =
 pub one-delivery : {packed : List ℕ} {part : ℕ} {array : List ℕ} {p s b t q r : ℕ} {packed′ packed″ array′ array″ : List ℕ} → DeliveredC packed part array p s b t q packed′ array′ → DeliveredC packed part array p s b t r packed″ array″
     → (q ≡ r) × (packed′ ≡ packed″) × (array′ ≡ array″)
 one-delivery p q = (p .answer ∙ sym (q .answer), p .bytes ∙ sym (q .bytes), p .memory ∙ sym (q .memory))
-
--- ---- the three numbers of an answer can be taken out again
-
-pub taken-apart : (a : Answer) → a .number < 256 → a .first < 256 → (packedAnswer a % 256 ≡ a .number) × (packedAnswer a / 256 % 256 ≡ a .first) × (packedAnswer a / 65536 ≡ a .count)
-unfolding packedAnswer
-taken-apart a h k = (omega arith, omega arith, omega arith)

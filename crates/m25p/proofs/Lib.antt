@@ -1,3 +1,4 @@
 -- Laws of the C calls.
 pub mod Laws
 pub mod Pins
+pub mod Apart

@@ -1,0 +1,106 @@
+-- The numbers of every call's answer come apart again, by the bits that docs/C-CALLS.md names, without a premise.
+-- Assumes nothing.
+use mathlib.Core.Path.{_≡_, refl, sym, ap, _∙_}
+use mathlib.Core.Bool.{cond, not, _&&_}
+use mathlib.Core.List.{List}
+use Prim.Native.Nat.{ℕ, zero, suc, _+_, _*_, _/_, _%_, _≤_, _<_}
+use native.Mathlib.Omega.{arith}
+use lib.Dec.{eqb, ltb, lit≤}
+use lib.ListN.{length}
+use Rattle.slices.proofs.Choices.{cond-ind}
+use Rattle.parts.specs.Parts.{figuresOf, knownPart}
+use Rattle.device.specs.declared.Device.{Device}
+use Rattle.device.specs.declared.Checked.{Checked}
+use Rattle.device.specs.Device.{onZero, sound, rangedOf, waitCall, powerUpCall, soundAnswer}
+use Rattle.device.specs.Packing.{formed, fieldsOf, unpackAnswer, unpackOf}
+use Rattle.chip.specs.declared.Answer.{Answer}
+use Rattle.chip.specs.declared.answers.Verdict.the-variants.{Refused}
+use Rattle.chip.specs.Answers.{deliveryAnswer}
+use Rattle.chip.specs.Outcome.{Outcome, bare, outcomeOf, transacted}
+use Rattle.chip.proofs.Rules.{Few, answer-few}
+use Rattle.pins.specs.Pins.{oddSamples, tooLong}
+use Rattle.pins.specs.Run.{runAnswer}
+use Rattle.m25p.specs.Calls.{packedAnswer, high, transactedC, Called, checkedC, CalledOn, deliveryC, DeliveredC}
+use Rattle.m25p.specs.Pins.{pinsC, RanC}
+
+-- bits 0 to 7, 8 to 15 and 16 to 47 are the answer's numbers, bits 48 to 63 are zero
+pub record Apart (r : ℕ) (a : Answer) : Type 0 where
+  pub number : r % 256 ≡ a .number
+  pub first : r / 256 % 256 ≡ a .first
+  pub count : r / 65536 % 4294967296 ≡ a .count
+  pub zeros : r / 281474976710656 ≡ 0
+
+-- numbers that fit their bits come apart
+apart : (a : Answer) → a .number < 256 → a .first < 256 → a .count < 4294967296 → Apart (packedAnswer a) a
+unfolding packedAnswer
+apart a h k l = record { number = omega arith; first = omega arith; count = omega arith; zeros = omega arith }
+
+-- so does an answer with nothing driven
+apart-bare : {r k : ℕ} → r ≡ packedAnswer (bare k) → k ≤ 23 → Apart r (bare k)
+apart-bare {r} {k} e h = rw e (apart (bare k) (omega arith) (omega arith) (omega arith))
+
+-- what holds of both holds of the one that the number chooses
+by-number : {A : Type 0} (P : A → Type 0) (k : ℕ) {x y : A} → P x → P y → P (onZero k x y)
+by-number P zero p q = p
+by-number P (suc k) p q = q
+
+-- unpacking answers 0, 6 or 8
+unpack-few : (b : List ℕ) → unpackAnswer b ≤ 8
+unfolding unpackAnswer
+unpack-few b = cond-ind (λ (k : ℕ). k ≤ 8) (eqb (length b) 28) (cond-ind (λ (k : ℕ). k ≤ 8) (formed b && sound (fieldsOf b)) (lit≤ tt) (lit≤ tt)) (lit≤ tt)
+
+-- a transaction
+pub transact-apart : (packed array sent : List ℕ) (pulses w : ℕ) (response : List ℕ) {r : ℕ} {packed′ array′ response′ : List ℕ}
+    → Called (transactedC packed array sent pulses w response) packed r packed′ array′ response′ → Apart r (transactedC packed array sent pulses w response .answer)
+unfolding transactedC outcomeOf
+transact-apart packed array sent pulses w response p =
+    let f : Few (transactedC packed array sent pulses w response .answer) = by-number (λ (o : Outcome). Few (o .answer)) (unpackAnswer packed)
+    (answer-few (unpackOf packed .device) array sent pulses (high w) response)
+    (record { number = omega (arith, unpack-few packed); first = lit≤ tt; count = lit≤ tt }) in
+    rw (p .answer) (apart _ (omega (arith, f .number)) (omega (arith, f .first)) (omega (arith, f .count)))
+
+-- a checked call that answers at most 8
+checked-few : (call : Device → Checked) (packed : List ℕ) → ((d : Device) → call d .answer ≤ 8) → checkedC call packed .answer ≤ 8
+unfolding checkedC unpackOf
+checked-few call packed h = by-number (λ (c : Checked). c .answer ≤ 8) (unpackAnswer packed) (h (unpackOf packed .device)) (unpack-few packed)
+
+sound-few : (d : Device) → soundAnswer d ≤ 8
+unfolding soundAnswer
+sound-few d = cond-ind (λ (k : ℕ). k ≤ 8) (sound d) (lit≤ tt) (lit≤ tt)
+
+-- a wait
+pub wait-apart : (packed : List ℕ) (t : ℕ) {r : ℕ} {packed′ : List ℕ} → CalledOn (checkedC (λ d. waitCall d t) packed) packed r packed′ → Apart r (bare (checkedC (λ d. waitCall d t) packed .answer))
+unfolding waitCall
+wait-apart packed t p = apart-bare (p .answer) (omega (arith, checked-few (λ d. waitCall d t) packed sound-few))
+
+-- a power-up
+pub power-up-apart : (packed : List ℕ) {r : ℕ} {packed′ : List ℕ} → CalledOn (checkedC powerUpCall packed) packed r packed′ → Apart r (bare (checkedC powerUpCall packed .answer))
+unfolding powerUpCall
+power-up-apart packed p = apart-bare (p .answer) (omega (arith, checked-few powerUpCall packed sound-few))
+
+-- a delivery
+pub deliver-apart : (packed : List ℕ) (part : ℕ) (array : List ℕ) (p s b t : ℕ) {r : ℕ} {packed′ array′ : List ℕ} → DeliveredC packed part array p s b t r packed′ array′
+    → Apart r (bare (deliveryC packed part (length array) p s b t))
+unfolding deliveryC deliveryAnswer
+deliver-apart packed part array p s b t d =
+    let P : ℕ → Type 0 = λ k. k ≤ 23 in
+    apart-bare (d .answer)
+    (cond-ind P (eqb (length packed) 28)
+    (cond-ind P (not (knownPart part)) (lit≤ tt)
+    (cond-ind P (not (eqb (length array) (figuresOf part .bytes))) (lit≤ tt)
+    (cond-ind P (not (rangedOf p && rangedOf s && rangedOf b && rangedOf t)) (lit≤ tt) (lit≤ tt))))
+    (lit≤ tt))
+
+-- a run over samples
+pub pins-apart : (packed array samples output : List ℕ) {r : ℕ} {packed′ array′ output′ : List ℕ} → RanC packed array samples output r packed′ array′ output′
+    → Apart r (bare (pinsC packed (length array) samples (length output)))
+unfolding pinsC runAnswer
+pins-apart packed array samples output ran =
+    let P : ℕ → Type 0 = λ k. k ≤ 23 in
+    let d = unpackOf packed .device in
+    apart-bare (ran .answer)
+    (by-number P (unpackAnswer packed)
+    (cond-ind P (not (sound d)) (lit≤ tt)
+    (cond-ind P (not (eqb (length array) (figuresOf (d .part) .bytes))) (lit≤ tt)
+    (cond-ind P (oddSamples samples) (lit≤ tt) (cond-ind P (tooLong samples) (lit≤ tt) (cond-ind P (ltb (length output) (length samples)) (lit≤ tt) (lit≤ tt))))))
+    (omega (arith, unpack-few packed)))
