@@ -3,8 +3,7 @@
  *   rt staticlib m25p
  *   cc -O2 -Iinclude examples/first.c target/staticlib/libm25p.a -o target/first && target/first
  *
- * The archive is for x86-64, and so are these commands. On another processor rig/run --test c_boundary
- * builds and runs this program with the compiler and the emulator of the Rattle kit.
+ * The archive is for x86-64, and so are these commands. docs/C-CALLS.md has those for another processor.
  */
 #include <stdio.h>
 #include <stdlib.h>

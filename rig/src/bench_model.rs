@@ -63,7 +63,7 @@ fn decimal(field: &[u8]) -> Option<u32> {
 
 /// Hex pairs in either case, at least one.
 fn pairs(field: &[u8]) -> Option<Vec<u8>> {
-    if field.is_empty() || !field.len().is_multiple_of(2) {
+    if field.is_empty() || field.len() % 2 != 0 {
         return None;
     }
     let digit = |byte: u8| (byte as char).to_digit(16);

@@ -15,6 +15,7 @@ pub mod pins_generate;
 pub mod pins_model;
 pub mod plain_pins;
 pub mod probe;
+pub mod replace;
 pub mod rng;
 pub mod serprog;
 pub mod vcd;

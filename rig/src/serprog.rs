@@ -79,9 +79,15 @@ pub fn operation(sent: &[u8], read: usize) -> Vec<u8> {
     [&[O_SPIOP], &written[..3], &read[..3], sent].concat()
 }
 
-/// Answers a client's commands until it hangs up: an error if that is within a command.
-pub fn serve(link: impl Read + Write, board: &mut Board) -> io::Result<()> {
-    let mut session = Session { link: BufReader::new(link), board, delay: 0, used: 0 };
+/// Answers a client's commands until it hangs up: an error if that is within a command. When the client
+/// lets the pins go, which is the last that flashrom does, `released` is called before the answer, and
+/// says whether all is well.
+pub fn serve(
+    link: impl Read + Write,
+    board: &mut Board,
+    released: impl FnMut(&Board) -> bool,
+) -> io::Result<()> {
+    let mut session = Session { link: BufReader::new(link), board, released, delay: 0, used: 0 };
     loop {
         let mut command = [0];
         if session.link.read(&mut command)? == 0 {
@@ -93,14 +99,15 @@ pub fn serve(link: impl Read + Write, board: &mut Board) -> io::Result<()> {
 }
 
 /// One client's connection, with its operation buffer: the delays in it, and how much of it they take.
-struct Session<'a, L> {
+struct Session<'a, L, R> {
     link: BufReader<L>,
     board: &'a mut Board,
+    released: R,
     delay: u64,
     used: usize,
 }
 
-impl<L: Read> Session<'_, L> {
+impl<L: Read, R: FnMut(&Board) -> bool> Session<'_, L, R> {
     fn answer(&mut self, command: u8) -> io::Result<Vec<u8>> {
         Ok(match command {
             NOP => vec![ACK],
@@ -122,10 +129,10 @@ impl<L: Read> Session<'_, L> {
                 [0, 0, 0, 0] => vec![NAK],
                 frequency => ack(&frequency),
             },
-            S_PIN_STATE => {
-                self.parameter::<1>()?;
-                vec![ACK]
-            }
+            S_PIN_STATE => match self.parameter::<1>()? {
+                [0] => ack_if((self.released)(self.board)),
+                _ => vec![ACK],
+            },
             _ => vec![NAK],
         })
     }

@@ -12,7 +12,7 @@ use std::sync::atomic::{AtomicBool, Ordering};
 use std::thread;
 
 use rig::rng::Rng;
-use rig::serprog::{operation, Image, ACK, MOST_READ, NAK, SYNCNOP};
+use rig::serprog::{operation, Image, ACK, MOST_READ, NAK, SYNCNOP, S_PIN_STATE};
 use support::{eventually, scratch, Client, Server};
 
 const BYTES: usize = 131_072;
@@ -32,6 +32,12 @@ fn program(client: &mut Client, address: usize, byte: u8) {
     let address = address.to_be_bytes();
     client.operate(&[&[0x02], &address[5..], &[byte]].concat(), 0);
     eventually("the program ends", || client.operate(&[0x05], 1) == [0x00]);
+}
+
+/// Sets the state of the pin drivers; 0 lets the pins go. Whether it is acknowledged.
+fn pin_state(client: &mut Client, state: u8) -> bool {
+    client.send(&[S_PIN_STATE, state]);
+    client.receive(1) == [ACK]
 }
 
 /// What the server does next: it answers, and with these contents.
@@ -137,6 +143,48 @@ fn one_client_after_another() {
     ends_well(server, &path, &contents);
 }
 
+/// When a client lets the pins go, the image is written before that is acknowledged.
+#[test]
+fn image_is_written_as_the_pins_are_released() {
+    let (path, mut contents) = image("released");
+    let server = Server::start("m25p10-a", &[], Some(&path));
+    let mut client = server.client();
+    for (at, byte) in [(0x900, 0x55), (0xA00, 0x66)] {
+        program(&mut client, at, byte);
+        assert!(pin_state(&mut client, 1));
+        assert!(fs::read(&path).unwrap() == contents, "only when the pins are let go");
+        contents[at] = byte;
+        assert!(pin_state(&mut client, 0));
+        assert!(fs::read(&path).unwrap() == contents, "at once");
+    }
+    ends_well(server, &path, &contents);
+}
+
+/// One server has an image at a time, by whatever name, also after it was replaced.
+#[test]
+fn second_server_is_refused() {
+    let (path, mut contents) = image("second");
+    let link = scratch("second_from").join("link.bin");
+    symlink(&path, &link).unwrap();
+    let refused = || {
+        for name in [&path, &link] {
+            let sentence = refusal(&["--part", "M25P10-A"], Some(name));
+            let shown = path.canonicalize().unwrap();
+            let expected = format!("The image {} is in use by another server.\n", shown.display());
+            assert_eq!(sentence, expected);
+        }
+    };
+    let server = Server::start("M25P10-A", &[], Some(&path));
+    refused();
+    let mut client = server.client();
+    program(&mut client, 0xB00, 0x77);
+    assert!(pin_state(&mut client, 0));
+    refused();
+    contents[0xB00] = 0x77;
+    ends_well(server, &path, &contents);
+    ends_well(Server::start("M25P10-A", &[], Some(&link)), &path, &contents);
+}
+
 /// SIGTERM with a client in mid-command is an end, too; SIGKILL leaves the image as it was.
 #[test]
 fn signals() {
@@ -185,7 +233,10 @@ fn image_that_cannot_be_written() {
         let server = Server::start("M25P10-A", &[], Some(&path));
         let taken = path.with_file_name(format!("chip.bin.{}.new", server.child.id()));
         fs::create_dir(&taken).unwrap();
-        program(&mut server.client(), 0x700, 0x33);
+        let mut client = server.client();
+        program(&mut client, 0x700, 0x33);
+        assert!(!pin_state(&mut client, 0), "not acknowledged");
+        drop(client);
         serves(&server, &programmed);
         assert!(fs::read(&path).unwrap() == contents);
         if free_again {
@@ -199,7 +250,8 @@ fn image_that_cannot_be_written() {
     }
 }
 
-/// Whoever reads the image while it is written back sees it whole, before or after.
+/// Whoever reads the image while it is written back sees it whole, before or after, and no second server
+/// gets hold of it in between.
 #[test]
 fn image_is_replaced_as_a_whole() {
     let path = scratch("whole").join("chip.bin");
@@ -212,6 +264,7 @@ fn image_is_replaced_as_a_whole() {
             while !done.load(Ordering::Relaxed) {
                 let seen = fs::read(&path).unwrap();
                 assert!(seen.len() == BYTES && seen.iter().all(|byte| *byte == seen[0]));
+                assert!(Image::open(&path, BYTES).is_err_and(|e| e.contains("in use")));
                 looks += 1;
             }
             looks

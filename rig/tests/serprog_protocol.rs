@@ -30,7 +30,7 @@ impl Write for Talk {
 /// How a client ends that says this, and what it hears.
 fn talk(board: &mut Board, said: &[u8]) -> (io::Result<()>, Vec<u8>) {
     let mut talk = Talk { said: Cursor::new(said.to_vec()), heard: Vec::new() };
-    (serve(&mut talk, board), talk.heard)
+    (serve(&mut talk, board, |_| true), talk.heard)
 }
 
 /// What a client hears that says whole commands.
@@ -198,6 +198,7 @@ fn parsed(line: &str) -> Result<Options, String> {
 fn options() {
     for (name, part) in NAMES {
         assert_eq!(parsed(&format!("--part {name}")), Ok(Options::of(part)));
+        assert_eq!(parsed(&format!("--part {}", name.to_lowercase())), Ok(Options::of(part)));
     }
     let line = "--port 65535 --w 0 --tick-us 10 --bp 7 --srwd 1 --program 1 --sector-erase 2 \
                 --bulk-erase 1000000 --write-status 3 --trace --image a/b --part M25P128";

@@ -14,7 +14,7 @@ use rig::model::{Mode, Record, PARTS};
 use rig::pins_model::{End, PinFault, Walk, NOT_DRIVEN};
 use rig::probe::{Probe, SpiMode};
 use rig::rng::Rng;
-use rig::vcd;
+use rig::vcd::{self, Undriven};
 
 const BINARY: &str = "binary:numchannels=8:samplerate=1000000";
 
@@ -118,7 +118,8 @@ fn compare(name: &str, start: &Chip, all: &[Sent], mode: SpiMode, half: usize) {
     let (mut record, mut array, mut output) =
         (start.record, start.array.clone(), vec![9; samples.len()]);
     assert_eq!(calls::pins(&mut record, &mut array, &samples, &mut output).0, 0);
-    let dump = written(&format!("{name}.vcd"), vcd::text(&samples, &output).as_bytes());
+    let text = vcd::text(&samples, &output, Undriven::Floating);
+    let dump = written(&format!("{name}.vcd"), text.as_bytes());
     let names = "cs=select:clk=clock:mosi=data";
     assert_eq!(decoded(&dump, "vcd", names, mode, "mosi"), bytes, "{name}: dump");
 
@@ -140,6 +141,28 @@ fn records(part: u8) -> Vec<Record> {
     } else {
         vec![standby, busy, deep]
     }
+}
+
+/// The command's dump of an ignored READ, as the decoder reads it with a pull-up: FF, as in a response.
+#[test]
+fn ignored_read_with_a_pull_up() {
+    let Some(version) = version() else {
+        tell("skipped, as sigrok-cli is not on this machine");
+        return;
+    };
+    let mut probe = Probe::new(SpiMode::Zero, 1);
+    let all: [&[u8]; 4] = [&[0x9F, 0], &[0x06], &[0x02, 0, 0, 0, 0x5A], &[0x03, 0, 0, 0, 0, 0]];
+    all.iter().for_each(|sent| probe.transaction(sent, 0, true));
+    let file = written("sigrok-ignored.bin", &probe.samples);
+    let dump = file.with_extension("vcd");
+    let mut command = Command::new(env!("CARGO_BIN_EXE_pins"));
+    command.arg("m25p40").arg(&file).arg("--vcd").arg(&dump).arg("--pulled-up");
+    assert!(command.output().unwrap().status.success());
+    let names = "cs=select:clk=clock:mosi=data:miso=output";
+    let heard = decoded(&dump, "vcd", names, SpiMode::Zero, "miso");
+    let expected: [&[u8]; 4] = [&[0xFF, 0x20], &[0xFF], &[0xFF; 5], &[0xFF; 6]];
+    assert_eq!(heard, expected);
+    tell(&format!("{version}: an ignored READ decodes as FF with a pull-up"));
 }
 
 #[test]

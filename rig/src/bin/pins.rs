@@ -1,36 +1,52 @@
 //! Carries out a probe's file on a part as delivered: the output bytes, and a dump for a wave viewer.
 
+use std::ffi::{OsStr, OsString};
+use std::io::{stdout, Write};
 use std::path::{Path, PathBuf};
 use std::process::ExitCode;
 
 use rig::calls::{Answer, Chip, Durations};
 use rig::pins_model::{End, Found, PinFault, Walk, NOT_DRIVEN};
-use rig::vcd;
+use rig::replace::write_result;
+use rig::vcd::{self, Undriven};
 
-const USAGE: &str = "Usage: pins PART FILE [--output OUT] [--vcd OUT.vcd] [--durations P,S,B,W]
+const USAGE: &str = "\
+Usage: pins PART FILE [--output OUT] [--vcd OUT.vcd [--pulled-up]] [--durations P,S,B,W]
 
-PART         a number or a name: 0 bench, 1 M25P10-A, 2 M25P40, 3 M25P32, 4 M25P128
+PART         a number or a name, in any case: 0 bench, 1 M25P10-A, 2 M25P40, 3 M25P32, 4 M25P128
 FILE         one byte for each sample: bit 0 Chip Select, 1 clock, 2 data in, 3 W, 4 Hold
 --output     writes one byte for each sample: the output after it, 0 or 1, or 2 for not driven
 --vcd        writes the five pins and the output for GTKWave or PulseView
---durations  ticks of a program, sector erase, bulk erase and status write; 3,5,9,2 if not given";
+--pulled-up  writes an output that is not driven as 1 into the dump, as a pull-up resistor makes
+             it, and not as z: PulseView and sigrok take z for 0, so that an ignored READ decodes
+             as 00 and not as FF
+--durations  ticks of a program, sector erase, bulk erase and status write; 3,5,9,2 if not given
+
+The part is as delivered. A result that is there already is replaced.";
 
 const NAMES: [&str; 5] = ["bench", "M25P10-A", "M25P40", "M25P32", "M25P128"];
 
+const DURATIONS: Durations =
+    Durations { program: 3, sector_erase: 5, bulk_erase: 9, write_status: 2 };
+
 /// What the command line asks for.
+#[derive(Default)]
 struct Asked {
     part: usize,
     file: PathBuf,
     output: Option<PathBuf>,
     vcd: Option<PathBuf>,
-    durations: Durations,
+    pulled_up: bool,
+    durations: Option<Durations>,
 }
 
-fn part(text: &str) -> Result<usize, String> {
-    let named = NAMES.iter().position(|name| name.eq_ignore_ascii_case(text));
-    let numbered = text.parse().ok().filter(|number| *number < NAMES.len());
+fn part(word: &OsStr) -> Result<usize, String> {
+    let named = NAMES.iter().position(|name| word.eq_ignore_ascii_case(name));
+    let number = word.to_str().and_then(|text| text.parse().ok());
+    let numbered = number.filter(|number| *number < NAMES.len());
     let known = "0 bench, 1 M25P10-A, 2 M25P40, 3 M25P32, 4 M25P128";
-    named.or(numbered).ok_or(format!("There is no part {text}; the parts are {known}."))
+    let shown = Path::new(word).display();
+    named.or(numbered).ok_or(format!("There is no part {shown}; the parts are {known}."))
 }
 
 fn durations(text: &str) -> Result<Durations, String> {
@@ -46,30 +62,43 @@ fn durations(text: &str) -> Result<Durations, String> {
     }
 }
 
-fn parse(arguments: &[String]) -> Result<Asked, String> {
+/// Takes the place of an option's value, unless it is taken.
+fn once<T>(place: &mut Option<T>, name: &str, value: T) -> Result<(), String> {
+    match place.replace(value) {
+        None => Ok(()),
+        Some(_) => Err(format!("{name} is given twice.")),
+    }
+}
+
+fn parse(words: Vec<OsString>) -> Result<Asked, String> {
     let mut plain = Vec::new();
-    let (mut output, mut vcd, mut ticks) = (None, None, "3,5,9,2");
-    let mut rest = arguments.iter();
-    while let Some(argument) = rest.next() {
-        let mut value = || rest.next().ok_or(format!("{argument} needs a value.\n{USAGE}"));
-        match argument.as_str() {
-            "--output" => output = Some(PathBuf::from(value()?)),
-            "--vcd" => vcd = Some(PathBuf::from(value()?)),
-            "--durations" => ticks = value()?,
-            option if option.starts_with("--") => {
-                return Err(format!("There is no option {option}.\n{USAGE}"))
+    let mut asked = Asked::default();
+    let mut rest = words.into_iter();
+    while let Some(word) = rest.next() {
+        let name = word.to_string_lossy().into_owned();
+        let mut value = || rest.next().ok_or(format!("{name} has no value."));
+        match name.as_str() {
+            "--output" => once(&mut asked.output, &name, value()?.into())?,
+            "--vcd" => once(&mut asked.vcd, &name, value()?.into())?,
+            "--durations" => {
+                let ticks = durations(&value()?.to_string_lossy())?;
+                once(&mut asked.durations, &name, ticks)?;
             }
-            _ => plain.push(argument),
+            "--pulled-up" => asked.pulled_up = true,
+            option if option.starts_with("--") => {
+                return Err(format!("There is no option {option}; pins --help says more."))
+            }
+            _ => plain.push(word),
         }
     }
-    let [name, file] = plain[..] else { return Err(USAGE.to_string()) };
-    Ok(Asked {
-        part: part(name)?,
-        file: PathBuf::from(file),
-        output,
-        vcd,
-        durations: durations(ticks)?,
-    })
+    let [part_word, file] = &plain[..] else {
+        return Err("A part and a file are needed, and no more; pins --help says more.".into());
+    };
+    (asked.part, asked.file) = (part(part_word)?, file.into());
+    if asked.pulled_up && asked.vcd.is_none() {
+        return Err("--pulled-up is about the dump and needs --vcd.".into());
+    }
+    Ok(asked)
 }
 
 /// An answer number of delivery or of a run, in words.
@@ -77,7 +106,6 @@ fn meaning(answer: Answer) -> &'static str {
     match answer {
         Answer::Executed => "carried out",
         Answer::Duration => "a duration is outside 1 to 1,000,000",
-        Answer::SampleBits => "a sample has one of the bits 5 to 7 set",
         Answer::PinsLength => "a transaction has more than 65,536 bytes",
         _ => "refused",
     }
@@ -85,6 +113,17 @@ fn meaning(answer: Answer) -> &'static str {
 
 fn refusal(what: &str, answer: Answer) -> String {
     format!("{what} is refused with {}: {}.", answer as u8, meaning(answer))
+}
+
+/// The refusal of a run; 21 is told with the first sample that is none.
+fn run_refusal(file: &Path, samples: &[u8], answer: Answer) -> String {
+    let file = file.display();
+    match samples.iter().position(|sample| sample >> 5 != 0) {
+        Some(at) if answer == Answer::SampleBits => format!(
+            "{file} is refused with 21: sample {at}, counted from 0, has one of the bits 5 to 7 set."
+        ),
+        _ => refusal(&file.to_string(), answer),
+    }
 }
 
 /// Refuses to write over the probe's file, or two results into one.
@@ -106,7 +145,12 @@ fn apart(asked: &Asked) -> Result<(), String> {
 
 fn write(path: &Option<PathBuf>, bytes: impl FnOnce() -> Vec<u8>) -> Result<(), String> {
     let Some(path) = path else { return Ok(()) };
-    std::fs::write(path, bytes()).map_err(|e| format!("{} cannot be written: {e}.", path.display()))
+    let shown = path.display();
+    write_result(path, &bytes()).map_err(|e| format!("{shown} cannot be written: {e}."))
+}
+
+fn say(text: &str) -> Result<(), String> {
+    writeln!(stdout(), "{text}").map_err(|e| format!("Standard output cannot be written: {e}."))
 }
 
 /// How many of the transactions ended in this way.
@@ -114,39 +158,51 @@ fn count(found: &[Found], ended: impl Fn(End) -> bool) -> usize {
     found.iter().filter(|found| ended(found.end)).count()
 }
 
-fn carry_out(arguments: &[String]) -> Result<(), String> {
-    let asked = parse(arguments)?;
+/// The run in three lines.
+fn report(part: usize, samples: &[u8], output: &[u8]) -> String {
+    let found = Walk::of(samples, PinFault::None).found;
+    let risen = count(&found, |end| matches!(end, End::Risen { .. }));
+    let thrown = count(&found, |end| end == End::ThrownAway);
+    let unfinished = found.len() - risen - thrown;
+    let driven = output.iter().filter(|byte| **byte != NOT_DRIVEN).count();
+    format!(
+        "{}, {} samples: answer 0, {}\n\
+         {risen} transactions ended, {thrown} thrown away, {unfinished} unfinished\n\
+         output driven after {driven} samples",
+        NAMES[part],
+        samples.len(),
+        meaning(Answer::Executed)
+    )
+}
+
+fn carry_out(words: Vec<OsString>) -> Result<(), String> {
+    let asked = parse(words)?;
     apart(&asked)?;
     let file = asked.file.display();
     let samples = std::fs::read(&asked.file).map_err(|e| format!("{file} cannot be read: {e}."))?;
-    let mut chip = Chip::deliver(asked.part as u32, asked.durations)
+    let mut chip = Chip::deliver(asked.part as u32, asked.durations.unwrap_or(DURATIONS))
         .map_err(|answer| refusal("The delivery", answer))?;
     let (reply, output) = chip.pins(&samples);
     let answer = reply.answer();
     if answer != Answer::Executed {
-        return Err(refusal(&file.to_string(), answer));
+        return Err(run_refusal(&asked.file, &samples, answer));
     }
+    let undriven = if asked.pulled_up { Undriven::PulledUp } else { Undriven::Floating };
     write(&asked.output, || output.clone())?;
-    write(&asked.vcd, || vcd::text(&samples, &output).into_bytes())?;
-    let found = Walk::of(&samples, PinFault::None).found;
-    let risen = count(&found, |end| matches!(end, End::Risen { .. }));
-    let thrown = count(&found, |end| end == End::ThrownAway);
-    let driven = output.iter().filter(|byte| **byte != NOT_DRIVEN).count();
-    println!("{}, {} samples: answer 0, {}", NAMES[asked.part], samples.len(), meaning(answer));
-    println!(
-        "{risen} transactions ended, {thrown} thrown away, {} unfinished",
-        found.len() - risen - thrown
-    );
-    println!("output driven after {driven} samples");
-    Ok(())
+    write(&asked.vcd, || vcd::text(&samples, &output, undriven).into_bytes())?;
+    say(&report(asked.part, &samples, &output))
 }
 
 fn main() -> ExitCode {
-    let arguments: Vec<String> = std::env::args().skip(1).collect();
-    match carry_out(&arguments) {
+    let words: Vec<OsString> = std::env::args_os().skip(1).collect();
+    let done = match words.iter().any(|word| word == "--help") {
+        true => say(USAGE),
+        false => carry_out(words),
+    };
+    match done {
         Ok(()) => ExitCode::SUCCESS,
         Err(sentence) => {
-            eprintln!("{sentence}");
+            let _ = writeln!(std::io::stderr(), "{sentence}");
             ExitCode::FAILURE
         }
     }

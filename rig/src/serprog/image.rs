@@ -1,19 +1,25 @@
-//! The image file: a raw copy of the array, replaced as a whole or not at all.
+//! The image file: a raw copy of the array, of one server alone, replaced as a whole or not at all.
 
-use std::ffi::OsString;
-use std::fs::{self, File, OpenOptions};
-use std::io::{self, Write};
+use std::ffi::c_int;
+use std::fs::{self, File};
+use std::io;
+use std::os::fd::AsRawFd;
+use std::os::unix::fs::MetadataExt;
 use std::path::{Path, PathBuf};
+
+use crate::replace::replace;
 
 pub struct Image {
     /// With every link followed, so that a link stays one.
     path: PathBuf,
     /// What the file has.
     saved: Vec<u8>,
+    /// The file, open and locked, so that no second server takes it.
+    file: File,
 }
 
 impl Image {
-    /// Reads a file of just so many bytes, or says in a sentence why it can't.
+    /// Reads a file of just so many bytes and locks it, or says in a sentence why it can't.
     pub fn open(path: &Path, bytes: usize) -> Result<Image, String> {
         let unread = |e: io::Error| format!("The image {} can't be read: {e}.", path.display());
         let path = fs::canonicalize(path).map_err(unread)?;
@@ -28,48 +34,65 @@ impl Image {
         if metadata.len() != bytes as u64 {
             return Err(wrong(metadata.len()));
         }
+        let taken = || format!("The image {} is in use by another server.", path.display());
+        let file = open_locked(&path).map_err(unread)?.ok_or_else(taken)?;
         let saved = fs::read(&path).map_err(unread)?;
         if saved.len() != bytes {
             return Err(wrong(saved.len() as u64));
         }
-        Ok(Image { path, saved })
+        Ok(Image { path, saved, file })
     }
 
     pub fn contents(&self) -> &[u8] {
         &self.saved
     }
 
-    /// Writes the array back if it is not what the file has.
+    /// Writes the array back if it is not what the file has. The new file is locked before it takes the
+    /// image's name, so the image is never without a lock.
     pub fn store(&mut self, array: &[u8]) -> Result<(), String> {
         if self.saved == array {
             return Ok(());
         }
-        let beside = self.beside();
-        let unwritten = |e: io::Error| {
-            format!("The image {} can't be written and stays as it was: {e}.", self.path.display())
+        let prepare = |new: &File| {
+            new.set_permissions(fs::metadata(&self.path)?.permissions())?;
+            lock(new).map(drop)
         };
-        let file = OpenOptions::new().write(true).create_new(true).open(&beside);
-        let replaced = self.replace(file.map_err(unwritten)?, &beside, array);
-        if let Err(e) = replaced {
-            let _ = fs::remove_file(&beside);
-            return Err(unwritten(e));
-        }
+        let replaced = replace(&self.path, array, prepare);
+        self.file = replaced.map_err(|e| {
+            format!("The image {} can't be written and stays as it was: {e}.", self.path.display())
+        })?;
         self.saved.copy_from_slice(array);
         Ok(())
     }
+}
 
-    /// The whole array into the new file and onto the disk, then the file into the image's place.
-    fn replace(&self, mut file: File, beside: &Path, array: &[u8]) -> io::Result<()> {
-        file.set_permissions(fs::metadata(&self.path)?.permissions())?;
-        file.write_all(array)?;
-        file.sync_all()?;
-        fs::rename(beside, &self.path)
+/// Opens and locks the file; none if another server has it. Where a server has put a new file in its
+/// place between the two, the new one is tried.
+fn open_locked(path: &Path) -> io::Result<Option<File>> {
+    loop {
+        let file = File::open(path)?;
+        if !lock(&file)? {
+            return Ok(None);
+        }
+        let (opened, there) = (file.metadata()?, fs::metadata(path)?);
+        if (opened.dev(), opened.ino()) == (there.dev(), there.ino()) {
+            return Ok(Some(file));
+        }
     }
+}
 
-    /// The name of the new file: in the same directory, and of this process alone.
-    fn beside(&self) -> PathBuf {
-        let mut name = OsString::from(self.path.file_name().unwrap_or_default());
-        name.push(format!(".{}.new", std::process::id()));
-        self.path.with_file_name(name)
+/// Locks an open file until it is closed; false if it is locked already.
+fn lock(file: &File) -> io::Result<bool> {
+    extern "C" {
+        fn flock(file: c_int, operation: c_int) -> c_int;
+    }
+    const EXCLUSIVE: c_int = 2;
+    const AT_ONCE: c_int = 4;
+    if unsafe { flock(file.as_raw_fd(), EXCLUSIVE | AT_ONCE) } == 0 {
+        return Ok(true);
+    }
+    match io::Error::last_os_error() {
+        e if e.kind() == io::ErrorKind::WouldBlock => Ok(false),
+        e => Err(e),
     }
 }

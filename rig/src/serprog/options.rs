@@ -1,7 +1,7 @@
 //! The options of the serprog server; a bad one is refused with a sentence.
 
 use std::ffi::{OsStr, OsString};
-use std::path::PathBuf;
+use std::path::{Display, Path, PathBuf};
 
 use crate::calls::Durations;
 use crate::model::PARTS;
@@ -12,9 +12,10 @@ pub const NAMES: [(&str, u32); 4] = [("M25P10-A", 1), ("M25P40", 2), ("M25P32", 
 pub const USAGE: &str = "\
 serprog --part NAME [option]...   an M25P chip for flashrom, on a loopback port
 
-  --part NAME        M25P10-A, M25P40, M25P32 or M25P128
+  --part NAME        M25P10-A, M25P40, M25P32 or M25P128, in capitals or small letters
   --image FILE       the contents: a raw file of the part's size, read at start and written back
-                     when a client has hung up and at the end (SIGINT or SIGTERM)
+                     when a client lets the pins go, when it has hung up, and at the end (SIGINT
+                     or SIGTERM); one server has it at a time
   --port N           0 to 65535; 0, the default, takes a free one
   --w 0|1            the level of the Write Protect pin W; 1
   --bp N             block protection at start; 0
@@ -68,7 +69,7 @@ impl Options {
         let mut options = Options::of(0);
         while let Some(word) = words.next() {
             let Some(name) = word.to_str().filter(|name| KNOWN.contains(name)) else {
-                return Err(format!("{} is not an option.", word.display()));
+                return Err(format!("{} is not an option.", shown(&word)));
             };
             if seen.contains(&word) {
                 return Err(format!("{name} is given twice."));
@@ -130,11 +131,16 @@ const KNOWN: [&str; 12] = [
     "--trace",
 ];
 
+/// A part by its name, in any case.
 fn part(value: &OsStr) -> Result<u32, String> {
-    let found = NAMES.into_iter().find(|(name, _)| value == *name);
-    let refusal =
-        format!("--part is M25P10-A, M25P40, M25P32 or M25P128, not {}.", value.display());
+    let found = NAMES.into_iter().find(|(name, _)| value.eq_ignore_ascii_case(name));
+    let refusal = format!("--part is M25P10-A, M25P40, M25P32 or M25P128, not {}.", shown(value));
     found.map(|(_, part)| part).ok_or(refusal)
+}
+
+/// A word of the command line as text.
+fn shown(word: &OsStr) -> Display<'_> {
+    Path::new(word).display()
 }
 
 /// Decimal digits alone, within the limits.
@@ -142,6 +148,6 @@ fn number(name: &str, value: &OsStr, least: u32, most: u32) -> Result<u32, Strin
     let digits =
         value.to_str().filter(|text| text.bytes().all(|character| character.is_ascii_digit()));
     let number = digits.and_then(|digits| digits.parse().ok());
-    let refusal = format!("{name} is {least} to {most}, not {}.", value.display());
+    let refusal = format!("{name} is {least} to {most}, not {}.", shown(value));
     number.filter(|number| (least..=most).contains(number)).ok_or(refusal)
 }

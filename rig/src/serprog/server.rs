@@ -1,4 +1,5 @@
-//! The server: one client after another on a loopback port, and the image written back behind each.
+//! The server: one client after another on a loopback port. The image is written back when a client lets
+//! the pins go, before that is acknowledged, and behind each client.
 
 use std::io::{self, Read, Write};
 use std::net::{Ipv4Addr, SocketAddr, TcpListener, TcpStream};
@@ -49,28 +50,29 @@ impl Server {
         self.listener.local_addr()
     }
 
-    /// Serves until told to stop. Where the image can't be written behind a client, `complain` is told,
-    /// and the next client's end is another try; at the end it is an error.
+    /// Serves until told to stop. Where the image can't be written, `complain` is told, and the next time
+    /// is another try; at the end it is an error.
     pub fn run(&mut self, stop: &AtomicBool, complain: impl Fn(&str)) -> Result<(), String> {
         while !stop.load(Ordering::Relaxed) {
             let Ok((stream, _)) = self.listener.accept() else {
                 thread::sleep(LOOK);
                 continue;
             };
+            let Server { board, image, .. } = self;
+            let mut stored =
+                |board: &Board| store(image, board).map_err(|sentence| complain(&sentence)).is_ok();
             // However a client ends, the next one is served.
-            let _ = Link::new(stream, stop).and_then(|link| serve(link, &mut self.board));
-            if let Err(sentence) = self.store() {
-                complain(&sentence);
-            }
+            let _ = Link::new(stream, stop).and_then(|link| serve(link, board, &mut stored));
+            stored(board);
         }
-        self.store()
+        store(&mut self.image, &self.board)
     }
+}
 
-    fn store(&mut self) -> Result<(), String> {
-        match &mut self.image {
-            Some(image) => image.store(self.board.array()),
-            None => Ok(()),
-        }
+fn store(image: &mut Option<Image>, board: &Board) -> Result<(), String> {
+    match image {
+        Some(image) => image.store(board.array()),
+        None => Ok(()),
     }
 }
 

@@ -1,24 +1,17 @@
-//! A serprog server that runs as a process, a small client for it, and a directory for a test's files.
+//! A serprog server that runs as a process, and a small client for it.
 
-use std::fs;
+mod common;
+
 use std::io::{BufRead, BufReader, Read, Write};
 use std::net::{Ipv4Addr, TcpStream};
-use std::path::{Path, PathBuf};
+use std::path::Path;
 use std::process::{Child, Command, ExitStatus, Stdio};
 use std::sync::mpsc::{channel, Receiver};
 use std::thread;
-use std::time::{Duration, Instant};
 
+pub use common::{eventually, scratch};
+use common::{send_signal, PATIENCE, SIGTERM};
 use rig::serprog::{operation, ACK};
-
-/// The longest that a test waits for anything of a server.
-const PATIENCE: Duration = Duration::from_secs(30);
-
-extern "C" {
-    fn kill(process: i32, signal: i32) -> i32;
-}
-
-const SIGTERM: i32 = 15;
 
 pub struct Server {
     pub child: Child,
@@ -62,7 +55,7 @@ impl Server {
 
     /// SIGTERM, and the server's end.
     pub fn stop(mut self) -> End {
-        unsafe { kill(self.child.id() as i32, SIGTERM) };
+        send_signal(self.child.id(), SIGTERM);
         let mut status = None;
         eventually("the server ends", || {
             status = self.child.try_wait().unwrap();
@@ -102,21 +95,4 @@ impl Client {
         assert_eq!(self.receive(1), [ACK]);
         self.receive(read)
     }
-}
-
-/// Looks again and again, for a bounded time.
-pub fn eventually(what: &str, mut seen: impl FnMut() -> bool) {
-    let end = Instant::now() + PATIENCE;
-    while !seen() {
-        assert!(Instant::now() < end, "not in time: {what}");
-        thread::sleep(Duration::from_millis(5));
-    }
-}
-
-/// An empty directory of the test's own.
-pub fn scratch(name: &str) -> PathBuf {
-    let directory = PathBuf::from(env!("CARGO_TARGET_TMPDIR")).join(name);
-    let _ = fs::remove_dir_all(&directory);
-    fs::create_dir_all(&directory).unwrap();
-    directory
 }

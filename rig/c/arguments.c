@@ -1,0 +1,209 @@
+/* arguments.c - the order of each C call's arguments. Every argument of a call has another value. The call
+ * does what the header says of these values, and with any two of its pointers or any two of its numbers and
+ * lengths exchanged it does something else: so a library that takes two of them in another order does not
+ * pass here. Prints one line for each call. */
+#include <stdio.h>
+#include <string.h>
+
+#include "m25p.h"
+
+enum { MOST_POINTERS = 4, MOST_NUMBERS = 7, ROOM = 262144 };
+
+/* What a call is given: its pointers and its numbers, lengths among them, each in the header's order. Every
+ * pointer has a room of its own, larger than any length below, so that no exchange leads out of it. */
+struct call {
+    const char *name;
+    uint64_t (*make)(uint8_t *const p[], const uint64_t n[]);
+    void (*prepare)(struct call *call);
+    int (*right)(const struct call *call);
+    int pointers, numbers;
+    uint8_t *pointer[MOST_POINTERS];
+    uint64_t number[MOST_NUMBERS];
+    uint64_t answer;
+};
+
+static uint8_t room[MOST_POINTERS][ROOM];
+static uint8_t after[MOST_POINTERS][ROOM];
+
+static uint64_t deliver(uint8_t *const p[], const uint64_t n[])
+{
+    return m25p_deliver(p[0], n[0], n[1], p[1], n[2], n[3], n[4], n[5], n[6]);
+}
+
+static uint64_t transact(uint8_t *const p[], const uint64_t n[])
+{
+    return m25p_transact(p[0], n[0], p[1], n[1], p[2], n[2], n[3], n[4], p[3], n[5]);
+}
+
+static uint64_t wait(uint8_t *const p[], const uint64_t n[])
+{
+    return m25p_wait(p[0], n[0], n[1]);
+}
+
+static uint64_t power_up(uint8_t *const p[], const uint64_t n[])
+{
+    return m25p_power_up(p[0], n[0]);
+}
+
+static uint64_t pins(uint8_t *const p[], const uint64_t n[])
+{
+    return m25p_pins(p[0], n[0], p[1], n[1], p[2], n[2], p[3], n[3]);
+}
+
+static void set(struct call *call, int numbers, const uint64_t *number)
+{
+    memcpy(call->number, number, (size_t)numbers * sizeof *number);
+    for (int i = 0; i < MOST_POINTERS; i++)
+        call->pointer[i] = room[i];
+}
+
+/* A record of the M25P10-A with SRWD set, the latch set, in standby or busy with 20 ticks left. */
+static void record(uint8_t *at, int busy)
+{
+    const uint8_t bytes[M25P_RECORD_BYTES] = {
+        1, 0, 1, 1, (uint8_t)busy, 0, 0, 0, busy ? 20 : 0, 0, 0, 0, 11, 0, 0, 0, 12, 0, 0, 0, 13, 0, 0, 0, 14};
+    memcpy(at, bytes, sizeof bytes);
+}
+
+static void prepare_deliver(struct call *call)
+{
+    set(call, 7, (const uint64_t[]){28, 1, M25P_M25P10A_BYTES, 101, 102, 103, 104});
+}
+
+/* Part, durations and array are where the header has them. */
+static int right_deliver(const struct call *call)
+{
+    const uint8_t packed[M25P_RECORD_BYTES] = {1, 0, 0, 0, 0, 0, 0, 0, 0, 0, 0, 0, 101, 0, 0, 0,
+                                               102, 0, 0, 0, 103, 0, 0, 0, 104};
+    for (size_t i = 0; i < M25P_M25P10A_BYTES; i++)
+        if (room[1][i] != 0xFF)
+            return 0;
+    return call->answer == 0 && memcmp(room[0], packed, sizeof packed) == 0;
+}
+
+/* A status write that W low would freeze and a further pulse would spoil. */
+static void prepare_transact(struct call *call)
+{
+    set(call, 6, (const uint64_t[]){28, M25P_M25P10A_BYTES, 2, 0, 1, 5});
+    record(room[0], 0);
+    memcpy(room[2], (const uint8_t[]){0x01, 0x04}, 2);
+}
+
+/* BP is 1 and SRWD 0, the record busy for a status write, and the response two bytes FF. */
+static int right_transact(const struct call *call)
+{
+    return call->answer == 0 && room[0][1] == 1 && room[0][2] == 0 && room[0][4] == 1 && room[0][8] == 14
+        && room[3][0] == 0xFF && room[3][1] == 0xFF && room[3][2] == 0x5C && room[1][0] == 0x5A;
+}
+
+static void prepare_wait(struct call *call)
+{
+    set(call, 2, (const uint64_t[]){28, 7});
+    record(room[0], 1);
+}
+
+static int right_wait(const struct call *call)
+{
+    return call->answer == 0 && room[0][4] == 1 && room[0][8] == 13;
+}
+
+static void prepare_power_up(struct call *call)
+{
+    set(call, 1, (const uint64_t[]){28});
+    record(room[0], 1);
+}
+
+static int right_power_up(const struct call *call)
+{
+    return call->answer == 0 && room[0][3] == 0 && room[0][4] == 0 && room[0][8] == 0;
+}
+
+/* A READ of the first byte, then Select high: 40 clock pulses of two samples, with half a pulse around. */
+static void prepare_pins(struct call *call)
+{
+    const uint8_t low = M25P_PIN_W | M25P_PIN_HOLD;
+    size_t at = 0;
+    record(room[0], 0);
+    room[2][at++] = low;
+    for (int bit = 0; bit < 40; bit++) {
+        uint8_t data = bit == 6 || bit == 7 ? M25P_PIN_DATA : 0;
+        room[2][at++] = low | data;
+        room[2][at++] = low | data | M25P_PIN_CLOCK;
+    }
+    room[2][at++] = low;
+    room[2][at++] = M25P_PINS_AT_REST;
+    set(call, 4, (const uint64_t[]){28, M25P_M25P10A_BYTES, at, at + 3});
+}
+
+/* The byte is 5A, its bits show from the fall behind the 32nd rise on, and nothing else has changed. */
+static int right_pins(const struct call *call)
+{
+    const uint8_t *output = room[3];
+    size_t n = call->number[2];
+    for (int bit = 0; bit < 8; bit++)
+        if (output[65 + 2 * bit] != (0x5A >> (7 - bit) & 1))
+            return 0;
+    return call->answer == 0 && output[64] == 2 && output[n - 1] == 2 && output[n] == 0x5C;
+}
+
+static void run(struct call *call, int i, int j, int of_pointers)
+{
+    for (int r = 0; r < MOST_POINTERS; r++)
+        memset(room[r], 0x59 + r, ROOM);
+    call->prepare(call);
+    if (i != j && of_pointers) {
+        uint8_t *p = call->pointer[i];
+        call->pointer[i] = call->pointer[j];
+        call->pointer[j] = p;
+    } else if (i != j) {
+        uint64_t n = call->number[i];
+        call->number[i] = call->number[j];
+        call->number[j] = n;
+    }
+    call->answer = call->make(call->pointer, call->number);
+}
+
+/* Whether the values of the two differ, and the call with them exchanged ends otherwise. */
+static int noticed(struct call *call, int i, int j, int of_pointers)
+{
+    uint64_t answer;
+    run(call, 0, 0, 0);
+    if (!of_pointers && call->number[i] == call->number[j])
+        return 0;
+    answer = call->answer;
+    memcpy(after, room, sizeof room);
+    run(call, i, j, of_pointers);
+    return answer != call->answer || memcmp(after, room, sizeof room) != 0;
+}
+
+static int try_all(struct call *call)
+{
+    int tried = 0, seen = 0;
+    run(call, 0, 0, 0);
+    int right = call->right(call);
+    for (int of_pointers = 0; of_pointers < 2; of_pointers++) {
+        int count = of_pointers ? call->pointers : call->numbers;
+        for (int i = 0; i < count; i++)
+            for (int j = i + 1; j < count; j++, tried++)
+                seen += noticed(call, i, j, of_pointers);
+    }
+    printf("%s: %s, %d of %d exchanges noticed\n", call->name, right ? "right" : "wrong", seen, tried);
+    return right && seen == tried;
+}
+
+#define CALL(NAME, POINTERS, NUMBERS)                                                              \
+    {                                                                                              \
+        .name = "m25p_" #NAME, .make = NAME, .prepare = prepare_##NAME, .right = right_##NAME,     \
+        .pointers = POINTERS, .numbers = NUMBERS                                                   \
+    }
+
+int main(void)
+{
+    static struct call calls[] = {
+        CALL(deliver, 2, 7), CALL(transact, 4, 6), CALL(wait, 1, 2), CALL(power_up, 1, 1), CALL(pins, 4, 4),
+    };
+    int fine = 1;
+    for (size_t i = 0; i < sizeof calls / sizeof *calls; i++)
+        fine &= try_all(&calls[i]);
+    return fine ? 0 : 1;
+}
