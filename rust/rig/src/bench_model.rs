@@ -1,6 +1,6 @@
 //! A model of the bench program: the whole output text that belongs to an input text.
 
-use crate::model::{Model, Transaction};
+use crate::model::{Model, Packed, Paper, Transaction, RECORD_BYTES};
 
 /// What a well-formed line asks for.
 #[derive(Clone, Debug, PartialEq, Eq)]
@@ -81,36 +81,35 @@ pub fn lines(input: &[u8]) -> Vec<&[u8]> {
 
 /// The bench part and its answers.
 pub struct Bench {
-    record: [u8; 28],
+    record: Packed,
     array: Vec<u8>,
 }
 
 impl Default for Bench {
     fn default() -> Bench {
-        let mut bench = Bench { record: [0; 28], array: vec![0; 4_096] };
+        let mut bench = Bench { record: [0; RECORD_BYTES], array: vec![0; 4_096] };
         let durations = [3, 5, 9, 2];
-        Model::right().deliver(&mut bench.record, 0, &mut bench.array, durations);
+        Paper.deliver(&mut bench.record, 0, &mut bench.array, durations);
         bench
     }
 }
 
 impl Bench {
     /// The packed record between two lines.
-    pub fn record(&self) -> &[u8; 28] {
+    pub fn record(&self) -> &Packed {
         &self.record
     }
 
     /// Carries a line out: its answer number and its response.
     pub fn carry_out(&mut self, line: &[u8]) -> (u8, Vec<u8>) {
-        let model = Model::right();
         match parse(line) {
             None => (MALFORMED, Vec::new()),
-            Some(Line::PowerUp) => (model.power_up(&mut self.record).answer, Vec::new()),
-            Some(Line::Wait(t)) => (model.wait(&mut self.record, t).answer, Vec::new()),
+            Some(Line::PowerUp) => (Paper.power_up(&mut self.record).answer, Vec::new()),
+            Some(Line::Wait(t)) => (Paper.wait(&mut self.record, t).answer, Vec::new()),
             Some(Line::Transaction { w, pulses, sent }) => {
                 let t = Transaction { sent: &sent, pulses, w };
                 let mut response = vec![0; sent.len()];
-                let outcome = model.transact(&mut self.record, &mut self.array, t, &mut response);
+                let outcome = Paper.transact(&mut self.record, &mut self.array, t, &mut response);
                 (outcome.answer, response)
             }
         }

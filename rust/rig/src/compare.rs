@@ -1,9 +1,14 @@
 //! The comparison: one call is made to libm25p.a and to the model, and every lent byte is compared.
 
-use crate::generate::Generator;
-use crate::model::{address, Fault, Model, Outcome, Record, Transaction, BE, CODES, PARTS};
+mod tally;
+
+pub use tally::Tally;
+
+use m25p::{calls, Buffer};
+
+use crate::model::{address, Model, Packed, Paper, Record, Transaction, BE, PARTS, RECORD_BYTES};
+use crate::pins_model::{Found, PinsModel};
 use crate::rng::Rng;
-use m25p::{calls, Buffer, Durations};
 
 /// Bytes behind each buffer that no call may touch, and that longer lengths reach into.
 pub const SPARE: usize = 16;
@@ -14,170 +19,187 @@ const END: usize = 4_096;
 /// On large parts all of the array is compared once in this many calls.
 const INTERVAL: u64 = 1_000;
 
+/// A call of the library, with what it is sent.
 pub enum Call {
     Deliver { part: u32, durations: [u32; 4] },
-    Transact { sent: Vec<u8>, pulses: u32, w: u32, response: Vec<u8>, response_len: usize },
+    Transact { sent: Vec<u8>, pulses: u32, w: u32 },
     Wait(u32),
     PowerUp,
+    Pins { samples: Vec<u8> },
 }
 
-/// A call with what it is lent: perhaps another record first, and the lengths that are named.
+/// A buffer that a call fills: its bytes before the call, more than are lent, and the length that is named.
+pub struct Filled {
+    pub bytes: Vec<u8>,
+    pub len: usize,
+}
+
+/// A call with what it is lent: perhaps another record first, the lengths that are named, and the buffers
+/// that it fills.
 pub struct Step {
     pub call: Call,
-    pub record: Option<[u8; 28]>,
+    pub record: Option<Packed>,
     pub record_len: usize,
     pub array_len: usize,
+    pub filled: Vec<Filled>,
 }
 
-/// How often each answer came, by number, and how often each instruction was executed, by code.
-pub struct Tally {
-    pub calls: u64,
-    pub answers: [u64; 256],
-    pub executed: [u64; 256],
+/// What the model answers: the 64 bits, and of raw pins what was found and the chip's number to each
+/// transaction carried out.
+pub struct Seen {
+    word: u64,
+    pub found: Vec<Found>,
+    pub chip: Vec<u8>,
 }
 
-impl Default for Tally {
-    fn default() -> Tally {
-        Tally { calls: 0, answers: [0; 256], executed: [0; 256] }
+impl Seen {
+    fn only(word: u64) -> Seen {
+        Seen { word, found: vec![], chip: vec![] }
+    }
+
+    pub fn answer(&self) -> u8 {
+        self.word as u8
     }
 }
 
-impl Tally {
-    fn count(&mut self, call: &Call, answer: u8) {
-        self.calls += 1;
-        self.answers[answer as usize] += 1;
-        if let (Call::Transact { sent, .. }, 0) = (call, answer) {
-            self.executed[sent[0] as usize] += 1;
-        }
-    }
-
-    pub fn show(&self) -> String {
-        let answers: Vec<String> = (0..256)
-            .filter(|i| self.answers[*i] > 0)
-            .map(|i| format!("{i}: {}", self.answers[i]))
-            .collect();
-        let executed: Vec<String> =
-            CODES.iter().map(|c| format!("{c:02X}: {}", self.executed[*c as usize])).collect();
-        let (answers, executed) = (answers.join(", "), executed.join(", "));
-        format!("{} calls; answers {answers}; executed {executed}", self.calls)
-    }
+/// The rules that the library is compared with.
+#[derive(Clone, Copy)]
+pub struct Rules {
+    pub chip: &'static dyn Model,
+    pub pins: &'static dyn PinsModel,
 }
+
+/// The paper's.
+pub const PAPER: Rules = Rules { chip: &Paper, pins: &Paper };
 
 /// The buffers of one side.
-struct Side {
-    record: Vec<u8>,
-    array: Buffer,
-    response: Vec<u8>,
+#[derive(Clone)]
+pub struct Side {
+    pub record: Vec<u8>,
+    pub array: Buffer,
+    pub filled: Vec<Vec<u8>>,
 }
 
-/// One chip on both sides.
-pub struct Pair {
-    part: usize,
-    model: Model,
-    real: Side,
-    modelled: Side,
-}
-
-impl Pair {
-    /// A chip of the part with random contents, and the given record.
-    pub fn new(start: Record, fault: Fault, rng: &mut Rng) -> Pair {
-        let part = start.part as usize;
-        let mut record = rng.bytes(28 + SPARE);
-        record[..28].copy_from_slice(&start.pack());
-        let array = Buffer::from(rng.bytes(PARTS[part].bytes + SPARE));
-        let side =
-            |record: &Vec<u8>, array| Side { record: record.clone(), array, response: vec![] };
-        let real = side(&record, array.clone());
-        Pair { part, model: Model { fault }, real, modelled: side(&record, array) }
-    }
-
-    /// The record between two calls, which is sound and of this part.
-    pub fn record(&self) -> Record {
-        Record::unpack(&self.modelled.record[..28]).expect("a sound record between two calls")
-    }
-
-    /// Makes the call on both sides; the first difference, if any, in words.
-    pub fn step(&mut self, step: &Step, tally: &mut Tally) -> Result<(), String> {
-        let before = self.modelled.record.clone();
+impl Side {
+    /// Puts in place what the step brings.
+    pub fn prepare(&mut self, step: &Step) {
         if let Some(record) = step.record {
-            self.real.record[..28].copy_from_slice(&record);
-            self.modelled.record[..28].copy_from_slice(&record);
+            self.record[..RECORD_BYTES].copy_from_slice(&record);
         }
-        let word = self.real_call(step);
-        let outcome = self.model_call(step);
-        tally.count(&step.call, outcome.answer);
-        self.compare(step, word, outcome, tally.calls)
-            .map_err(|difference| format!("{difference}\nat {}", describe(step, &before)))?;
-        let kept = Record::unpack(&self.modelled.record[..28]);
-        if kept.is_none_or(|record| record.part as usize != self.part) {
-            self.real.record.clone_from(&before);
-            self.modelled.record = before;
-        }
-        Ok(())
+        self.filled = step.filled.iter().map(|filled| filled.bytes.clone()).collect();
     }
 
-    fn real_call(&mut self, step: &Step) -> u64 {
-        let record = &mut self.real.record[..step.record_len];
-        let array = &mut self.real.array[..step.array_len];
+    /// Record, array and the buffers to be filled, as long as the step names them.
+    pub fn lend(&mut self, step: &Step) -> (&mut [u8], &mut [u8], Vec<&mut [u8]>) {
+        let filled = self.filled.iter_mut().zip(&step.filled);
+        let filled = filled.map(|(bytes, named)| &mut bytes[..named.len]).collect();
+        (&mut self.record[..step.record_len], &mut self.array[..step.array_len], filled)
+    }
+
+    fn call(&mut self, step: &Step) -> u64 {
+        let (record, array, mut filled) = self.lend(step);
         let reply = match &step.call {
             Call::Deliver { part, durations } => {
-                let [program, sector_erase, bulk_erase, write_status] = *durations;
-                let durations = Durations { program, sector_erase, bulk_erase, write_status };
-                calls::deliver(record, *part, array, durations)
+                calls::deliver(record, *part, array, (*durations).into())
             }
-            Call::Transact { sent, pulses, w, response, response_len } => {
-                self.real.response.clone_from(response);
-                let response = &mut self.real.response[..*response_len];
-                calls::transact(record, array, sent, *pulses, *w, response)
+            Call::Transact { sent, pulses, w } => {
+                calls::transact(record, array, sent, *pulses, *w, filled[0])
             }
             Call::Wait(ticks) => calls::wait(record, *ticks),
             Call::PowerUp => calls::power_up(record),
+            Call::Pins { samples } => calls::pins(record, array, samples, filled[0]),
         };
         reply.bits()
     }
 
-    fn model_call(&mut self, step: &Step) -> Outcome {
-        let record = &mut self.modelled.record[..step.record_len];
-        let array = &mut self.modelled.array[..step.array_len];
+    fn model_call(&mut self, step: &Step, rules: Rules) -> Seen {
+        let (record, array, mut filled) = self.lend(step);
+        let Rules { chip, pins } = rules;
         match &step.call {
             Call::Deliver { part, durations } => {
-                self.model.deliver(record, *part, array, *durations)
+                Seen::only(chip.deliver(record, *part, array, *durations).word())
             }
-            Call::Transact { sent, pulses, w, response, response_len } => {
-                self.modelled.response.clone_from(response);
-                let response = &mut self.modelled.response[..*response_len];
+            Call::Transact { sent, pulses, w } => {
                 let t = Transaction { sent, pulses: *pulses, w: *w };
-                self.model.transact(record, array, t, response)
+                Seen::only(chip.transact(record, array, t, filled[0]).word())
             }
-            Call::Wait(ticks) => self.model.wait(record, *ticks),
-            Call::PowerUp => self.model.power_up(record),
+            Call::Wait(ticks) => Seen::only(chip.wait(record, *ticks).word()),
+            Call::PowerUp => Seen::only(chip.power_up(record).word()),
+            Call::Pins { samples } => {
+                let outcome = pins.run(record, array, samples, filled[0]);
+                Seen { word: outcome.answer.into(), found: outcome.found, chip: outcome.chip }
+            }
         }
     }
+}
 
-    fn compare(&self, step: &Step, word: u64, outcome: Outcome, calls: u64) -> Result<(), String> {
-        if word != outcome.word() {
-            return Err(format!("answer {word:#x}, expected {:#x} {outcome:?}", outcome.word()));
+/// One chip on both sides.
+#[derive(Clone)]
+pub struct Pair {
+    part: usize,
+    rules: Rules,
+    pub real: Side,
+    pub modelled: Side,
+}
+
+impl Pair {
+    /// A chip of the part with random contents, and the given record.
+    pub fn new(start: Record, rules: Rules, rng: &mut Rng) -> Pair {
+        let part = start.part as usize;
+        let mut record = rng.bytes(RECORD_BYTES + SPARE);
+        record[..RECORD_BYTES].copy_from_slice(&start.pack());
+        let array = Buffer::from(rng.bytes(PARTS[part].bytes + SPARE));
+        let real = Side { record, array, filled: vec![] };
+        Pair { part, rules, modelled: real.clone(), real }
+    }
+
+    /// The record between two calls, which is sound and of this part.
+    pub fn record(&self) -> Record {
+        self.kept().expect("a sound record between two calls")
+    }
+
+    fn kept(&self) -> Option<Record> {
+        Record::unpack(&self.modelled.record[..RECORD_BYTES])
+    }
+
+    /// Makes the call on both sides: what the model saw, or the first difference in words.
+    pub fn step(&mut self, step: &Step, tally: &mut Tally) -> Result<Seen, String> {
+        let before = self.modelled.record.clone();
+        self.real.prepare(step);
+        self.modelled.prepare(step);
+        let word = self.real.call(step);
+        let seen = self.modelled.model_call(step, self.rules);
+        tally.count(step, &seen, &self.modelled.filled);
+        self.compare(step, word, &seen, tally.calls)
+            .map_err(|difference| format!("{difference}\nat {}", describe(step, &before)))?;
+        if self.kept().is_none_or(|record| record.part as usize != self.part) {
+            self.real.record.clone_from(&before);
+            self.modelled.record = before;
+        }
+        Ok(seen)
+    }
+
+    fn compare(&self, step: &Step, word: u64, seen: &Seen, calls: u64) -> Result<(), String> {
+        if word != seen.word {
+            return Err(format!("answer {word:#x}, expected {:#x}", seen.word));
         }
         same("record", 0, &self.real.record, &self.modelled.record)?;
-        same("response", 0, &self.real.response, &self.modelled.response)?;
-        let part = &PARTS[self.part];
-        let sent: &[u8] = match &step.call {
-            Call::Transact { sent, .. } => sent,
-            _ => &[],
-        };
-        let delivered = matches!(step.call, Call::Deliver { .. });
-        let erased = sent.first() == Some(&BE);
-        let changed = (delivered || erased) && outcome.answer == 0;
-        if self.part <= 1 || changed || calls % INTERVAL == 0 {
+        for (real, modelled) in self.real.filled.iter().zip(&self.modelled.filled) {
+            same("filled", 0, real, modelled)?;
+        }
+        if self.part <= 1 || touches_all(&step.call, seen.answer()) || calls % INTERVAL == 0 {
             return self.compare_array();
         }
+        let part = &PARTS[self.part];
         self.compare_window(0, END)?;
         self.compare_window(part.bytes - END, part.bytes + SPARE)?;
-        if sent.len() >= 4 {
-            let start = address(part, sent) / part.sector_bytes * part.sector_bytes;
-            self.compare_window(start, start + part.sector_bytes)?;
+        match &step.call {
+            Call::Transact { sent, .. } if sent.len() >= 4 => {
+                let start = address(part, sent) / part.sector_bytes * part.sector_bytes;
+                self.compare_window(start, start + part.sector_bytes)
+            }
+            _ => Ok(()),
         }
-        Ok(())
     }
 
     /// All of the array.
@@ -191,8 +213,18 @@ impl Pair {
     }
 }
 
+/// Whether a call with this answer may have changed the array anywhere.
+fn touches_all(call: &Call, answer: u8) -> bool {
+    match call {
+        Call::Deliver { .. } => answer == 0,
+        Call::Transact { sent, .. } => answer == 0 && sent.first() == Some(&BE),
+        Call::Wait(_) | Call::PowerUp => false,
+        Call::Pins { .. } => true,
+    }
+}
+
 /// The first byte that differs, if any, in words.
-pub fn same(what: &str, start: usize, real: &[u8], expected: &[u8]) -> Result<(), String> {
+fn same(what: &str, start: usize, real: &[u8], expected: &[u8]) -> Result<(), String> {
     if real == expected {
         return Ok(());
     }
@@ -201,43 +233,55 @@ pub fn same(what: &str, start: usize, real: &[u8], expected: &[u8]) -> Result<()
     Err(format!("{what} byte {}: {got:02X}, expected {wanted:02X}", start + at))
 }
 
-fn hex(bytes: &[u8]) -> String {
-    let mut text: String = bytes.iter().take(40).map(|byte| format!("{byte:02X}")).collect();
-    if bytes.len() > 40 {
-        text += "...";
-    }
-    text
+/// The first of the bytes in hex.
+fn hex(bytes: &[u8], most: usize) -> String {
+    let text: String = bytes.iter().take(most).map(|byte| format!("{byte:02X}")).collect();
+    text + if bytes.len() > most { "..." } else { "" }
 }
 
 fn describe(step: &Step, before: &[u8]) -> String {
-    let record = hex(step.record.as_ref().map_or(&before[..28], |record| &record[..]));
+    let record = step.record.as_ref().map_or(&before[..RECORD_BYTES], |record| &record[..]);
     let call = match &step.call {
         Call::Deliver { part, durations } => format!("deliver part {part} {durations:?}"),
-        Call::Transact { sent, pulses, w, response_len, .. } => {
-            let (n, sent) = (sent.len(), hex(sent));
-            format!("transact n {n} {sent} pulses {pulses} w {w} response_len {response_len}")
+        Call::Transact { sent, pulses, w } => {
+            format!("transact n {} {} pulses {pulses} w {w}", sent.len(), hex(sent, 40))
         }
         Call::Wait(ticks) => format!("wait {ticks}"),
         Call::PowerUp => "power-up".to_string(),
+        Call::Pins { samples } => format!("{} samples {}", samples.len(), hex(samples, 2_000)),
     };
-    let (record_len, array_len) = (step.record_len, step.array_len);
-    format!("{call}, record {record}, record_len {record_len}, array_len {array_len}")
+    let filled: Vec<usize> = step.filled.iter().map(|filled| filled.len).collect();
+    let (record, record_len, array_len) = (hex(record, 400), step.record_len, step.array_len);
+    format!(
+        "{call}, record {record}, record_len {record_len}, array_len {array_len}, filled {filled:?}"
+    )
+}
+
+/// Where calls come from.
+pub trait Source {
+    fn new(part: usize, seed: u64) -> Self;
+
+    /// A sound record of the part.
+    fn sound_record(&mut self) -> Record;
+
+    /// The next call for a chip whose record is `now`.
+    fn step(&mut self, now: &Record) -> Step;
 }
 
 /// An episode: a chip of the part from a random record on, and that many calls.
-pub fn episode(
+pub fn episode<S: Source>(
     part: usize,
     calls: u64,
     seed: u64,
-    fault: Fault,
+    rules: Rules,
     tally: &mut Tally,
 ) -> Result<(), String> {
     let mut rng = Rng::new(seed);
-    let mut generator = Generator::new(part, rng.draw());
-    let mut pair = Pair::new(generator.sound_record(part), fault, &mut rng);
+    let mut source = S::new(part, rng.draw());
+    let mut pair = Pair::new(source.sound_record(), rules, &mut rng);
     let told = |e| format!("part {part}, episode seed {seed}: {e}");
     for _ in 0..calls {
-        let step = generator.step(&pair.record());
+        let step = source.step(&pair.record());
         pair.step(&step, tally).map_err(told)?;
     }
     pair.compare_array().map_err(told)

@@ -1,6 +1,6 @@
 //! Random calls, guided by the record so that every state and every answer comes up often.
 
-use crate::compare::{Call, Step, SPARE};
+use crate::compare::{Call, Filled, Source, Step, SPARE};
 use crate::model::*;
 use crate::rng::Rng;
 
@@ -14,46 +14,54 @@ pub struct Generator {
 /// Numbers that look like small ones when they are cut down.
 const WIDE: [u32; 9] = [8, 255, 256, 257, 0x1_0000, 0x1_0001, 0x8000_0000, u32::MAX - 1, u32::MAX];
 
-impl Generator {
-    pub fn new(part: usize, seed: u64) -> Generator {
+impl Source for Generator {
+    fn new(part: usize, seed: u64) -> Generator {
         Generator { rng: Rng::new(seed), part, spot: 0 }
     }
 
-    /// The next call for a chip whose record is `now`. One in eight is odd: several of its lengths and
-    /// numbers may be wrong at once.
-    pub fn step(&mut self, now: &Record) -> Step {
+    fn sound_record(&mut self) -> Record {
+        self.record_of(self.part)
+    }
+
+    /// One call in eight is odd: several of its lengths and numbers may be wrong at once.
+    fn step(&mut self, now: &Record) -> Step {
         let odd = self.rng.one_in(8);
         let size = PARTS[self.part].bytes;
-        let call = self.call(now, odd);
-        let mut step = Step { call, record: None, record_len: 28, array_len: size };
+        let (call, filled) = self.call(now, odd);
+        let mut step =
+            Step { call, record: None, record_len: RECORD_BYTES, array_len: size, filled };
         if self.rng.one_in(40) {
-            step.record = Some(self.sound_record(self.part).pack());
+            step.record = Some(self.sound_record().pack());
         }
         if odd && self.rng.one_in(3) {
             step.record = Some(self.damaged(now));
         }
         if odd && self.rng.one_in(6) {
-            step.record_len = self.rng.pick(&[0, 1, 27, 29, 28 + SPARE]);
+            let lengths = [0, 1, RECORD_BYTES - 1, RECORD_BYTES + 1, RECORD_BYTES + SPARE];
+            step.record_len = self.rng.pick(&lengths);
         }
         if odd && self.rng.one_in(3) {
             step.array_len = self.rng.pick(&[0, 256, 4_096, size - 1, size + 1, size + SPARE]);
         }
         step
     }
+}
 
-    fn call(&mut self, now: &Record, odd: bool) -> Call {
+impl Generator {
+    /// A call, and the buffers that it fills.
+    fn call(&mut self, now: &Record, odd: bool) -> (Call, Vec<Filled>) {
         let wait = match now.mode {
             Mode::Busy(_) => 2,
             _ => 20,
         };
         if self.rng.one_in(wait) {
-            return Call::Wait(self.ticks(now));
+            return (Call::Wait(self.ticks(now)), vec![]);
         }
         if self.rng.one_in(60) {
-            return Call::PowerUp;
+            return (Call::PowerUp, vec![]);
         }
         if self.rng.one_in(60) {
-            return self.delivery(odd);
+            return (self.delivery(odd), vec![]);
         }
         self.transaction(now, odd)
     }
@@ -86,7 +94,7 @@ impl Generator {
         self.rng.pick(&[1, 1, 2, 3, 5, 9, 255, 256, 65_536, 1_000_000, random])
     }
 
-    fn transaction(&mut self, now: &Record, odd: bool) -> Call {
+    fn transaction(&mut self, now: &Record, odd: bool) -> (Call, Vec<Filled>) {
         let code = self.code(now);
         let mut sent = self.sent(code, now);
         if odd && self.rng.one_in(20) {
@@ -99,8 +107,9 @@ impl Generator {
         if odd && self.rng.one_in(3) {
             response_len = self.rng.pick(&[0, n / 2, n.saturating_sub(1)]);
         }
-        let response = self.rng.bytes(response_len + SPARE);
-        Call::Transact { sent, pulses: self.pulses(odd), w: self.w(), response, response_len }
+        let bytes = self.rng.bytes(response_len + SPARE);
+        let call = Call::Transact { sent, pulses: self.pulses(odd), w: self.w() };
+        (call, vec![Filled { bytes, len: response_len }])
     }
 
     fn pulses(&mut self, odd: bool) -> u32 {
@@ -208,7 +217,7 @@ impl Generator {
     }
 
     /// A sound record of the part.
-    pub fn sound_record(&mut self, part: usize) -> Record {
+    fn record_of(&mut self, part: usize) -> Record {
         let deep = if part == 4 { Mode::Standby } else { Mode::Deep };
         let busy = Mode::Busy(self.duration());
         let mode = self.rng.pick(&[Mode::Standby, Mode::Standby, Mode::Standby, busy, deep]);
@@ -228,9 +237,9 @@ impl Generator {
     }
 
     /// A packed record that is mostly not sound, or one of another part.
-    fn damaged(&mut self, now: &Record) -> [u8; 28] {
+    fn damaged(&mut self, now: &Record) -> Packed {
         let mut bytes = now.pack();
-        let at = self.rng.below(28);
+        let at = self.rng.below(RECORD_BYTES);
         let wrong = [0, 1, 0x8000_0000, 1_000_000, 1_000_001, 0x0100_0001, u32::MAX];
         match self.rng.below(8) {
             0 => return self.sound_record_of_any().pack(),
@@ -251,6 +260,6 @@ impl Generator {
 
     fn sound_record_of_any(&mut self) -> Record {
         let part = self.rng.below(5);
-        self.sound_record(part)
+        self.record_of(part)
     }
 }

@@ -5,11 +5,11 @@
 
 pub mod bench_model;
 pub mod compare;
+pub mod faults;
 pub mod generate;
 #[path = "../../m25p/src/kit.rs"]
 pub mod kit;
 pub mod model;
-pub mod pins_compare;
 pub mod pins_generate;
 pub mod pins_model;
 pub mod plain_pins;

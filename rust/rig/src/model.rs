@@ -1,14 +1,12 @@
 //! A model of the written rules: the four calls, rule by rule in the paper's order, plain and slow.
+//!
+//! Each rule is a method, so that a test can put a wrong reading in the place of one of them.
 
-mod fault;
 mod part;
 mod record;
 
-pub use fault::Fault;
 pub use part::{Part, PARTS};
-pub use record::{Mode, Record};
-
-use record::is_duration;
+pub use record::{is_duration, Mode, Packed, Record, RECORD_BYTES};
 
 pub const WREN: u8 = 0x06;
 pub const WRDI: u8 = 0x04;
@@ -43,7 +41,7 @@ pub struct Outcome {
 }
 
 impl Outcome {
-    fn only(answer: u8) -> Outcome {
+    pub fn only(answer: u8) -> Outcome {
         Outcome { answer, first: 0, count: 0 }
     }
 
@@ -53,37 +51,25 @@ impl Outcome {
     }
 }
 
-/// The model, as the paper has it or with one fault.
-pub struct Model {
-    pub fault: Fault,
-}
-
-impl Model {
-    pub fn right() -> Model {
-        Model { fault: Fault::None }
-    }
-
-    pub fn deliver(
+/// The rules.
+pub trait Model: Sync {
+    fn deliver(
         &self,
         record: &mut [u8],
         part: u32,
         array: &mut [u8],
         durations: [u32; 4],
     ) -> Outcome {
-        let duration_refused = !durations.into_iter().all(is_duration);
-        if record.len() != 28 {
+        if record.len() != RECORD_BYTES {
             return Outcome::only(8);
         }
         if part > 4 {
             return Outcome::only(1);
         }
-        if duration_refused && self.fault == Fault::DurationBeforeLength {
-            return Outcome::only(7);
-        }
         if array.len() != PARTS[part as usize].bytes {
             return Outcome::only(2);
         }
-        if duration_refused {
+        if !durations.into_iter().all(is_duration) {
             return Outcome::only(7);
         }
         array.fill(0xFF);
@@ -102,33 +88,20 @@ impl Model {
         Outcome::only(0)
     }
 
-    pub fn transact(
+    fn transact(
         &self,
         record: &mut [u8],
         array: &mut [u8],
-        transaction: Transaction,
+        t: Transaction,
         response: &mut [u8],
     ) -> Outcome {
-        let t = self.cut(transaction);
         let mut r = match self.accept(record, array, t, response) {
             Ok(r) => r,
-            Err(number) => {
-                if self.fault == Fault::RefusalWritesResponse {
-                    response.fill(0xFF);
-                }
-                return Outcome::only(number);
-            }
+            Err(number) => return Outcome::only(number),
         };
-        if self.fault == Fault::ResponseBeyondN {
-            response.fill(0xFF);
-        }
         let ignored = self.ignored(&r, t);
         if ignored != 0 {
             response[..t.sent.len()].fill(0xFF);
-            if self.fault == Fault::LatchLostWhenIgnored {
-                r.latch = false;
-                record.copy_from_slice(&r.pack());
-            }
             return Outcome::only(ignored);
         }
         let outcome = self.drive(&r, array, t.sent, response);
@@ -137,31 +110,29 @@ impl Model {
         outcome
     }
 
-    pub fn wait(&self, record: &mut [u8], ticks: u32) -> Outcome {
+    fn wait(&self, record: &mut [u8], ticks: u32) -> Outcome {
         let mut r = match self.unpack(record) {
             Ok(r) => r,
             Err(number) => return Outcome::only(number),
         };
         if let Mode::Busy(left) = r.mode {
-            if ticks < left || ticks == left && self.fault == Fault::LastTickMissed {
+            if ticks < left {
                 r.mode = Mode::Busy(left - ticks);
             } else {
                 r.mode = Mode::Standby;
-                r.latch = self.fault == Fault::LatchKeptAfterCycle;
+                r.latch = false;
             }
         }
         record.copy_from_slice(&r.pack());
         Outcome::only(0)
     }
 
-    pub fn power_up(&self, record: &mut [u8]) -> Outcome {
+    fn power_up(&self, record: &mut [u8]) -> Outcome {
         let mut r = match self.unpack(record) {
             Ok(r) => r,
             Err(number) => return Outcome::only(number),
         };
-        if r.mode != Mode::Deep || self.fault != Fault::PowerUpKeepsDeep {
-            r.mode = Mode::Standby;
-        }
+        r.mode = Mode::Standby;
         r.latch = false;
         record.copy_from_slice(&r.pack());
         Outcome::only(0)
@@ -169,14 +140,10 @@ impl Model {
 
     /// The record, or 8 or 6.
     fn unpack(&self, record: &[u8]) -> Result<Record, u8> {
-        if record.len() != 28 {
+        if record.len() != RECORD_BYTES {
             return Err(8);
         }
-        let mut bytes = record.to_vec();
-        if self.fault == Fault::ZeroBytesUnchecked {
-            bytes[5..8].fill(0);
-        }
-        Record::unpack(&bytes).ok_or(6)
+        Record::unpack(record).ok_or(6)
     }
 
     /// The record, or the host side's number: 8, 6, then 2, 3, 4, 5.
@@ -203,61 +170,48 @@ impl Model {
         Ok(r)
     }
 
-    /// The chip's number: 11, 14, 12, 13, 15, 16, 17, 18, or 0 where it executes.
+    /// The chip's number, the first that applies; 0 where it executes.
     fn ignored(&self, r: &Record, t: Transaction) -> u8 {
+        let applies = |number: &u8| self.applies(*number, r, t);
+        self.chip_numbers().into_iter().find(applies).unwrap_or(0)
+    }
+
+    /// The chip's numbers, in their order.
+    fn chip_numbers(&self) -> [u8; 8] {
+        [11, 14, 12, 13, 15, 16, 17, 18]
+    }
+
+    /// When each applies, given that none before it does.
+    fn applies(&self, number: u8, r: &Record, t: Transaction) -> bool {
         let n = t.sent.len();
         if n == 0 {
-            return 11;
+            return number == 11;
         }
         let code = t.sent[0];
-        let busy = matches!(r.mode, Mode::Busy(_)) && code != RDSR;
-        if busy && self.fault == Fault::BusyBeforeUnknown {
-            return 12;
+        match number {
+            14 => !known(r.figures(), code),
+            12 => matches!(r.mode, Mode::Busy(_)) && code != RDSR,
+            13 => r.mode == Mode::Deep && code != RES,
+            15 => !as_needed(code, n, t.pulses),
+            16 => matches!(code, WRSR | PP | SE | BE) && !r.latch,
+            17 => self.protected(r, t),
+            18 => code == WRSR && self.frozen(r, t.w),
+            _ => false,
         }
-        if !known(r.figures(), code) {
-            return 14;
-        }
-        if busy {
-            return 12;
-        }
-        if r.mode == Mode::Deep && code != RES {
-            return 13;
-        }
-        if !as_needed(code, n, t.pulses) {
-            return 15;
-        }
-        let protected = self.protected(r, t.sent);
-        if protected && self.fault == Fault::ProtectionBeforeLatch {
-            return 17;
-        }
-        if matches!(code, WRSR | PP | SE | BE) && !r.latch {
-            return 16;
-        }
-        if protected || code == PP && t.w == 0 && self.fault == Fault::WLowStopsProgram {
-            return 17;
-        }
-        let frozen = r.srwd || self.fault == Fault::FrozenOnWLowAlone;
-        if code == WRSR && frozen && t.w == 0 {
-            return 18;
-        }
-        0
     }
 
     /// PP or SE in a protected sector; BE with BP above 0.
-    fn protected(&self, r: &Record, sent: &[u8]) -> bool {
-        let part = r.figures();
-        match sent[0] {
-            PP | SE => {
-                let mut address = address(part, sent);
-                if self.fault == Fault::AddressNotReduced {
-                    address = full_address(sent);
-                }
-                let open = part.sectors - part.protected[r.bp as usize];
-                address / part.sector_bytes >= open
-            }
-            BE => r.bp > 0 && self.fault != Fault::BulkErasesUnprotectedOnly,
+    fn protected(&self, r: &Record, t: Transaction) -> bool {
+        match t.sent[0] {
+            PP | SE => in_protected_sector(r, address(r.figures(), t.sent)),
+            BE => r.bp > 0,
             _ => false,
         }
+    }
+
+    /// SRWD set and W low.
+    fn frozen(&self, r: &Record, w: u32) -> bool {
+        r.srwd && w == 0
     }
 
     /// Writes the first n response bytes of an executed transaction.
@@ -273,35 +227,30 @@ impl Model {
                 outcome.count += 1;
             }
         }
-        if outcome.count > 0 && self.fault == Fault::CountsEveryByte {
-            outcome.count = sent.len();
-        }
         outcome
     }
 
     /// What the chip drives during byte i.
     fn driven(&self, r: &Record, array: &[u8], sent: &[u8], i: usize) -> Option<u8> {
         let part = r.figures();
-        let read = |k: usize| {
-            let at = address(part, sent) + k;
-            if at >= part.bytes && self.fault == Fault::ReadStopsAtTheEnd {
-                return 0xFF;
-            }
-            array[at % part.bytes]
-        };
         match sent[0] {
             RDID if (1..4).contains(&i) => Some(part.identification[i - 1]),
             RDID if i >= 4 => Some(0x00),
             RDSR if i >= 1 => Some(r.status()),
-            READ if i >= 4 => Some(read(i - 4)),
-            FAST_READ if i >= 5 => Some(read(i - 5)),
+            READ if i >= 4 => Some(self.read(array, address(part, sent) + i - 4)),
+            FAST_READ if i >= 5 => Some(self.read(array, address(part, sent) + i - 5)),
             RES if i >= 4 => part.signature,
             _ => None,
         }
     }
 
+    /// The array, rolling over from its last byte to 0.
+    fn read(&self, array: &[u8], at: usize) -> u8 {
+        array[at % array.len()]
+    }
+
     /// What the chip drives during the last of these bytes; that byte itself does not matter.
-    pub fn drives_last(&self, r: &Record, array: &[u8], sent: &[u8]) -> Option<u8> {
+    fn drives_last(&self, r: &Record, array: &[u8], sent: &[u8]) -> Option<u8> {
         if self.ignored(r, Transaction { sent, pulses: 0, w: 1 }) != 0 {
             return None;
         }
@@ -316,8 +265,7 @@ impl Model {
             WRDI => r.latch = false,
             WRSR => {
                 r.srwd = sent[1] & 0x80 != 0;
-                let small = part.highest_bp == 3 && self.fault != Fault::BitFourKept;
-                r.bp = sent[1] >> 2 & if small { 3 } else { 7 };
+                r.bp = self.bp(part, sent[1]);
                 r.mode = Mode::Busy(r.write_status);
             }
             PP => {
@@ -330,55 +278,57 @@ impl Model {
                 r.mode = Mode::Busy(r.sector_erase);
             }
             BE => {
-                // BP is 0 here, so nothing is spared, but under one fault.
-                let spared = part.protected[r.bp as usize] * part.sector_bytes;
-                array[..part.bytes - spared].fill(0xFF);
+                self.bulk_erase(r, array);
                 r.mode = Mode::Busy(r.bulk_erase);
             }
-            DP => {
-                r.mode = Mode::Deep;
-                r.latch = r.latch && self.fault != Fault::DeepResetsLatch;
-            }
+            DP => r.mode = Mode::Deep,
             RES => r.mode = Mode::Standby,
             _ => {}
         }
     }
 
+    /// BP in a status byte: bits 4 to 2, or bits 3 and 2 where the highest BP is 3.
+    fn bp(&self, part: &Part, status: u8) -> u8 {
+        status >> 2 & if part.highest_bp == 3 { 3 } else { 7 }
+    }
+
+    fn bulk_erase(&self, _: &Record, array: &mut [u8]) {
+        array.fill(0xFF);
+    }
+
     /// Data into the latch of 256 slots, then the latch onto the addressed page.
     fn program(&self, array: &mut [u8], address: usize, data: &[u8]) {
-        if self.fault == Fault::RunOnPage {
-            for (k, byte) in data.iter().enumerate() {
-                array[(address + k) % array.len()] &= byte;
-            }
-            return;
-        }
         let mut latch = [0xFF; 256];
         for (k, byte) in data.iter().enumerate() {
-            let slot = (address + k) % 256;
-            if self.fault == Fault::AndDataIntoSlots {
-                latch[slot] &= byte;
-            } else {
-                latch[slot] = *byte;
-            }
+            let slot = &mut latch[(address + k) % 256];
+            *slot = self.slot(*slot, *byte);
         }
         let page = address / 256 * 256;
-        for (slot, byte) in latch.iter().enumerate() {
-            if self.fault == Fault::StoresOverOldBytes {
-                array[page + slot] = *byte;
-            } else {
-                array[page + slot] &= byte;
-            }
+        for (byte, slot) in array[page..page + 256].iter_mut().zip(latch) {
+            *byte = self.programmed(*byte, slot);
         }
     }
 
-    /// The transaction as it is; two faults cut its numbers down to 8 bits.
-    fn cut<'a>(&self, t: Transaction<'a>) -> Transaction<'a> {
-        match self.fault {
-            Fault::PulsesCutToAByte => Transaction { pulses: t.pulses & 0xFF, ..t },
-            Fault::WCutToAByte => Transaction { w: t.w & 0xFF, ..t },
-            _ => t,
-        }
+    /// A slot after a further byte: the later one replaces the earlier.
+    fn slot(&self, _before: u8, byte: u8) -> u8 {
+        byte
     }
+
+    /// A byte of the page after the program: itself and its slot, bit by bit.
+    fn programmed(&self, before: u8, slot: u8) -> u8 {
+        before & slot
+    }
+}
+
+/// The rules as the paper has them.
+pub struct Paper;
+
+impl Model for Paper {}
+
+/// Whether the address lies in a protected sector.
+pub fn in_protected_sector(r: &Record, address: usize) -> bool {
+    let part = r.figures();
+    address / part.sector_bytes >= part.sectors - part.protected[r.bp as usize]
 }
 
 /// Whether the code is an instruction of the part.
@@ -403,7 +353,7 @@ fn as_needed(code: u8, n: usize, pulses: u32) -> bool {
 }
 
 /// Bytes 1 to 3, high byte first.
-fn full_address(sent: &[u8]) -> usize {
+pub fn full_address(sent: &[u8]) -> usize {
     (sent[1] as usize) << 16 | (sent[2] as usize) << 8 | sent[3] as usize
 }
 

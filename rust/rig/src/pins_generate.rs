@@ -1,21 +1,11 @@
 //! Random runs of raw pins: transactions clocked cleanly, disturbed, wandering, or no more than noise.
 
-use crate::compare::{Call, SPARE};
+use crate::compare::{Call, Filled, Source, Step, SPARE};
 use crate::generate::Generator;
 use crate::model::*;
 use crate::pins_model::*;
 use crate::probe::{Probe, SpiMode};
 use crate::rng::Rng;
-
-/// A run with what it is lent: perhaps another record first, and the lengths that are named.
-pub struct Run {
-    pub samples: Vec<u8>,
-    pub output: Vec<u8>,
-    pub output_len: usize,
-    pub record: Option<[u8; 28]>,
-    pub record_len: usize,
-    pub array_len: usize,
-}
 
 /// A transaction that a run is to make.
 struct Plan {
@@ -27,22 +17,21 @@ struct Plan {
 pub struct PinsGenerator {
     rng: Rng,
     calls: Generator,
-    part: usize,
 }
 
-impl PinsGenerator {
-    pub fn new(part: usize, seed: u64) -> PinsGenerator {
+impl Source for PinsGenerator {
+    fn new(part: usize, seed: u64) -> PinsGenerator {
         let mut rng = Rng::new(seed);
         let calls = Generator::new(part, rng.draw());
-        PinsGenerator { rng, calls, part }
+        PinsGenerator { rng, calls }
     }
 
-    pub fn sound_record(&mut self) -> Record {
-        self.calls.sound_record(self.part)
+    fn sound_record(&mut self) -> Record {
+        self.calls.sound_record()
     }
 
-    /// The next run for a chip whose record is `now`; half the runs start from another record.
-    pub fn run(&mut self, now: &Record) -> Run {
+    /// Half the runs start from another record.
+    fn step(&mut self, now: &Record) -> Step {
         let step = self.calls.step(now);
         let other = self.rng.one_in(2).then(|| self.sound_record().pack());
         let record = step.record.or(other);
@@ -61,11 +50,12 @@ impl PinsGenerator {
         if self.rng.one_in(12) {
             output_len = self.rng.pick(&[0, n / 2, n.saturating_sub(1)]);
         }
-        let output = self.rng.bytes(output_len + SPARE);
-        let (record_len, array_len) = (step.record_len, step.array_len);
-        Run { samples, output, output_len, record, record_len, array_len }
+        let filled = vec![Filled { bytes: self.rng.bytes(output_len + SPARE), len: output_len }];
+        Step { call: Call::Pins { samples }, record, filled, ..step }
     }
+}
 
+impl PinsGenerator {
     fn samples(&mut self, from: Record) -> Vec<u8> {
         if self.rng.one_in(20) {
             let n = self.rng.below(200);
@@ -90,7 +80,7 @@ impl PinsGenerator {
             let mut call = self.calls.step(&now).call;
             let (mut sent, pulses, w) = loop {
                 match call {
-                    Call::Transact { sent, pulses, w, .. } => break (sent, pulses % 8, w != 0),
+                    Call::Transact { sent, pulses, w } => break (sent, pulses % 8, w != 0),
                     _ => call = self.calls.step(&now).call,
                 }
             };
@@ -168,13 +158,13 @@ impl PinsGenerator {
     fn wandering(&mut self, plans: &[Plan]) -> Vec<u8> {
         let clock = self.rng.pick(&[1, 1, 2, 3]);
         let hold = self.rng.pick(&[3, 10, 40, 400]);
-        let mut walker = Walker::new(PinFault::None);
+        let mut pins = Pins::new(REST);
         let mut samples = Vec::new();
         let mut levels = REST;
         let mut begun = 0;
         let length = plans.iter().map(|plan| plan.sent.len() * 24 + 40).sum::<usize>() * clock;
         for _ in 0..length {
-            if self.select_flips(&walker, plans.get(begun.max(1) - 1)) {
+            if self.select_flips(&pins, plans.get(begun.max(1) - 1)) {
                 levels ^= SELECT;
                 begun += usize::from(levels & SELECT == 0);
             }
@@ -185,22 +175,22 @@ impl PinsGenerator {
             if self.rng.one_in(chance) {
                 levels ^= HOLD;
             }
-            let starts = walker.selected() == (levels & SELECT != 0);
-            let taken = if starts { 0 } else { walker.taken() };
+            let starts = pins.selected() == (levels & SELECT != 0);
+            let taken = if starts { 0 } else { pins.bits.len() };
             levels &= !(DATA | W);
             levels |= self.data_and_w(plans.get(begun.max(1) - 1), taken);
-            walker.sample(levels);
+            Paper.sample(&mut pins, levels);
             samples.push(levels);
         }
         samples
     }
 
-    fn select_flips(&mut self, walker: &Walker, plan: Option<&Plan>) -> bool {
-        if !walker.selected() {
+    fn select_flips(&mut self, pins: &Pins, plan: Option<&Plan>) -> bool {
+        if !pins.selected() {
             return self.rng.one_in(3);
         }
         match plan {
-            Some(plan) if walker.taken() >= plan.sent.len() * 8 + plan.pulses as usize => {
+            Some(plan) if pins.bits.len() >= plan.sent.len() * 8 + plan.pulses as usize => {
                 self.rng.one_in(2)
             }
             _ => self.rng.one_in(600),

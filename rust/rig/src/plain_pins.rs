@@ -2,7 +2,7 @@
 
 mod chip;
 
-use crate::model::Record;
+use crate::model::{Record, RECORD_BYTES};
 use crate::pins_model::{CLOCK, DATA, HOLD, MOST_BYTES, NOT_DRIVEN, REST, SELECT, W};
 use chip::Chip;
 
@@ -125,7 +125,7 @@ impl Pins {
 
 /// Carries a run out; the answer number.
 pub fn run(record: &mut [u8], array: &mut [u8], samples: &[u8], output: &mut [u8]) -> u8 {
-    if record.len() != 28 {
+    if record.len() != RECORD_BYTES {
         return 8;
     }
     let Some(unpacked) = Record::unpack(record) else { return 6 };

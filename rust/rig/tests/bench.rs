@@ -8,7 +8,7 @@ use std::thread;
 use std::time::Duration;
 
 use rig::bench_model::{self, Bench, MOST_CHARACTERS};
-use rig::compare::Call;
+use rig::compare::{Call, Source};
 use rig::generate::Generator;
 use rig::kit;
 use rig::model::Record;
@@ -85,7 +85,7 @@ fn hex(bytes: &[u8], rng: &mut Rng) -> String {
 fn good_line(generator: &mut Generator, now: &Record, rng: &mut Rng) -> Vec<u8> {
     let line = loop {
         match generator.step(now).call {
-            Call::Transact { sent, pulses, w, .. } if sent.len() <= 297 && pulses < 8 => {
+            Call::Transact { sent, pulses, w } if sent.len() <= 297 && pulses < 8 => {
                 let w = u32::from(w != 0);
                 break match hex(&sent, rng) {
                     none if none.is_empty() => format!("x {w} {pulses}"),

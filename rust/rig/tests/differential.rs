@@ -1,8 +1,10 @@
 //! libm25p.a against the model, over all five parts. RIG_CALLS and RIG_SEED make it longer or another.
 
 use m25p::Answer;
-use rig::compare::{episode, Tally};
-use rig::model::{Fault, CODES};
+use rig::compare::{episode, Rules, Tally, PAPER};
+use rig::faults;
+use rig::generate::Generator;
+use rig::model::CODES;
 use rig::rng::Rng;
 use rig::tell;
 
@@ -30,7 +32,7 @@ fn calls_equal_model() {
         let end = calls * (part as u64 + 1) / 5;
         while tally.calls < end {
             let seed = seeds.draw();
-            if let Err(difference) = episode(part, length, seed, Fault::None, &mut tally) {
+            if let Err(difference) = episode::<Generator>(part, length, seed, PAPER, &mut tally) {
                 panic!("{difference}");
             }
         }
@@ -50,13 +52,14 @@ fn calls_equal_model() {
 /// With a fault in the model the same comparison finds a difference, each time.
 #[test]
 fn faults_are_seen() {
-    for fault in Fault::ALL {
+    for (name, fault) in faults::CHIP {
+        let rules = Rules { chip: *fault, ..PAPER };
         let mut seeds = Rng::new(DEFAULT_SEED);
         let mut tally = Tally::default();
         let seen = (0..40).any(|i| {
             let part = i % 3;
-            episode(part, EPISODE[part], seeds.draw(), fault, &mut tally).is_err()
+            episode::<Generator>(part, EPISODE[part], seeds.draw(), rules, &mut tally).is_err()
         });
-        assert!(seen, "{fault:?} was not seen in {} calls", tally.calls);
+        assert!(seen, "{name} was not seen in {} calls", tally.calls);
     }
 }

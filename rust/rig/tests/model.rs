@@ -1,11 +1,11 @@
 //! The model on the worked cases K1 to K15, and the bench model on the worked example.
 
 use rig::bench_model::{self, Line};
-use rig::model::{Mode, Model, Outcome, Record, Transaction};
+use rig::model::{Mode, Model, Outcome, Packed, Paper, Record, Transaction};
 
 /// The chip of the worked cases: bench part, standby, BP 0, SRWD 0, latch set, array FF.
 struct Case {
-    record: [u8; 28],
+    record: Packed,
     array: Vec<u8>,
     response: Vec<u8>,
 }
@@ -23,7 +23,7 @@ impl Case {
     fn run(&mut self, sent: &[u8], pulses: u32, w: u32) -> Outcome {
         self.response = vec![0; sent.len()];
         let t = Transaction { sent, pulses, w };
-        Model::right().transact(&mut self.record, &mut self.array, t, &mut self.response)
+        Paper.transact(&mut self.record, &mut self.array, t, &mut self.response)
     }
 
     fn answer(&mut self, sent: &[u8]) -> u8 {
@@ -31,7 +31,7 @@ impl Case {
     }
 
     fn wait(&mut self, ticks: u32) {
-        assert_eq!(Model::right().wait(&mut self.record, ticks).answer, 0);
+        assert_eq!(Paper.wait(&mut self.record, ticks).answer, 0);
     }
 
     fn status(&mut self) -> u8 {

@@ -1,13 +1,15 @@
 //! m25p_pins against the model, over all five parts. RIG_RUNS and RIG_SEED make it longer or another.
 
-use std::io::Write;
-
 use m25p::calls;
-use rig::pins_compare::{episode, PinsPair, PinsTally};
+use rig::compare::{episode, Call, Pair, Rules, Seen, Source, Step, Tally, PAPER};
+use rig::faults;
+use rig::model::{Packed, RECORD_BYTES};
 use rig::pins_generate::PinsGenerator;
-use rig::pins_model::{End, PinFault};
+use rig::pins_model::End;
 use rig::plain_pins;
 use rig::rng::Rng;
+use rig::tell;
+use tools::pins::Ends;
 
 const DEFAULT_RUNS: u64 = 20_000;
 const DEFAULT_SEED: u64 = 1;
@@ -25,26 +27,20 @@ fn number(name: &str, default: u64) -> u64 {
     }
 }
 
-/// Written past the test's capture, so that a seed is always seen.
-fn tell(text: &str) {
-    let _ = writeln!(std::io::stderr(), "{text}");
-}
-
 #[test]
 fn runs_equal_model() {
     let runs = number("RIG_RUNS", DEFAULT_RUNS);
     let seed = number("RIG_SEED", DEFAULT_SEED);
     tell(&format!("pins: seed {seed}, at least {runs} runs"));
     let mut seeds = Rng::new(seed);
-    let mut tally = PinsTally::default();
+    let mut tally = Tally::default();
     let mut end = 0;
     for (part, length) in EPISODE.into_iter().enumerate() {
         end += runs * SHARE[part] / 100;
-        while tally.runs < end {
-            if let Err(difference) = episode(part, length, seeds.draw(), PinFault::None, &mut tally)
-            {
-                panic!("{difference}");
-            }
+        while tally.calls < end {
+            let seed = seeds.draw();
+            episode::<PinsGenerator>(part, length, seed, PAPER, &mut tally)
+                .unwrap_or_else(|difference| panic!("{difference}"));
         }
     }
     tell(&format!("pins: {}", tally.show()));
@@ -52,33 +48,49 @@ fn runs_equal_model() {
         assert!(tally.answers[answer] >= 20, "answer {answer} came too seldom");
     }
     for answer in [0, 11, 12, 13, 14, 15, 16, 17, 18] {
-        assert!(tally.chip[answer] >= 20, "the chip's number {answer} came too seldom");
+        assert!(tally.pins.chip[answer] >= 20, "the chip's number {answer} came too seldom");
     }
-    let ends = [tally.carried_out, tally.thrown_away, tally.unfinished];
+    let ends = [tally.pins.carried_out, tally.pins.thrown_away, tally.pins.unfinished];
     assert!(ends.into_iter().all(|times| times >= 20), "an end came too seldom");
 }
 
 /// With a fault in the model the same comparison finds a difference, each time.
 #[test]
 fn faults_are_seen() {
-    for fault in PinFault::SHORT {
+    for (name, fault) in faults::SHORT {
+        let rules = Rules { pins: *fault, ..PAPER };
         let mut seeds = Rng::new(DEFAULT_SEED);
-        let mut tally = PinsTally::default();
-        let seen = (0..60).any(|_| episode(0, 50, seeds.draw(), fault, &mut tally).is_err());
-        assert!(seen, "{fault:?} was not seen in {} runs", tally.runs);
+        let mut tally = Tally::default();
+        let mut differs = |seed| episode::<PinsGenerator>(0, 50, seed, rules, &mut tally).is_err();
+        let seen = (0..60).any(|_| differs(seeds.draw()));
+        assert!(seen, "{name} was not seen in {} runs", tally.calls);
     }
 }
 
-/// Random runs on chips of the first three parts, each handed over with the chip from before it.
-fn each_run(count: u64, mut look: impl FnMut(&mut PinsPair, &mut PinsGenerator)) {
+/// A run on a chip: the packed record that it starts from, the step, its samples, and what the model saw.
+struct Run<'a> {
+    start: Packed,
+    step: &'a Step,
+    samples: &'a [u8],
+    seen: Seen,
+}
+
+/// Random runs on chips of the first three parts; each is looked at with the chip from before it and from
+/// behind it.
+fn each_run(count: u64, mut look: impl FnMut(&Pair, &Pair, Run)) {
     let seed = number("RIG_SEED", DEFAULT_SEED);
     let mut seeds = Rng::new(seed);
     for part in 0..3 {
         let mut generator = PinsGenerator::new(part, seeds.draw());
         let mut rng = Rng::new(seeds.draw());
-        let mut pair = PinsPair::new(generator.sound_record(), PinFault::None, &mut rng);
+        let mut pair = Pair::new(generator.sound_record(), PAPER, &mut rng);
         for _ in 0..count {
-            look(&mut pair, &mut generator);
+            let step = generator.step(&pair.record());
+            let Call::Pins { samples } = &step.call else { panic!("a run") };
+            let start = step.record.unwrap_or(pair.record().pack());
+            let before = pair.clone();
+            let seen = pair.step(&step, &mut Tally::default()).unwrap();
+            look(&before, &pair, Run { start, step: &step, samples, seen });
         }
     }
 }
@@ -86,23 +98,20 @@ fn each_run(count: u64, mut look: impl FnMut(&mut PinsPair, &mut PinsGenerator))
 /// Record and array after a run are those of the transactions found, given singly to m25p_transact.
 #[test]
 fn equals_single_transactions() {
-    each_run(500, |pair, generator| {
-        let run = generator.run(&pair.record());
-        let mut record = run.record.map_or(pair.record().pack(), |record| record);
-        let mut array = pair.real.array.clone();
-        let outcome = pair.run(&run, &mut PinsTally::default()).unwrap();
-        if outcome.answer != 0 {
+    each_run(500, |before, after, run| {
+        if run.seen.answer() != 0 {
             return;
         }
-        for found in outcome.found {
+        let (mut record, mut array) = (run.start, before.real.array.clone());
+        for found in run.seen.found {
             let End::Risen { w } = found.end else { continue };
             let (sent, w) = (found.sent(), u32::from(w));
             let mut response = vec![0; sent.len()];
-            let array = &mut array[..run.array_len];
+            let array = &mut array[..run.step.array_len];
             calls::transact(&mut record, array, &sent, found.pulses(), w, &mut response);
         }
-        assert_eq!(array, pair.real.array);
-        assert_eq!(record, pair.real.record[..28]);
+        assert_eq!(array, after.real.array);
+        assert_eq!(record, after.real.record[..RECORD_BYTES]);
     });
 }
 
@@ -110,21 +119,18 @@ fn equals_single_transactions() {
 #[test]
 fn no_output_depends_on_a_later_sample() {
     let mut rng = Rng::new(DEFAULT_SEED);
-    each_run(300, |pair, generator| {
-        let run = generator.run(&pair.record());
-        let start = run.record.unwrap_or(pair.record().pack());
-        let array = pair.real.array[..run.array_len].to_vec();
-        let outcome = pair.run(&run, &mut PinsTally::default()).unwrap();
-        if outcome.answer != 0 {
+    each_run(300, |before, after, run| {
+        if run.seen.answer() != 0 {
             return;
         }
         for _ in 0..3 {
             let cut = rng.below(run.samples.len() + 1);
             let mut output = vec![9; cut];
-            let mut array = array.clone();
+            let mut array = before.real.array[..run.step.array_len].to_vec();
             let samples = &run.samples[..cut];
-            assert_eq!(calls::pins(&mut start.clone(), &mut array, samples, &mut output).bits(), 0);
-            assert_eq!(output, pair.real.output[..cut]);
+            let reply = calls::pins(&mut run.start.clone(), &mut array, samples, &mut output);
+            assert_eq!(reply.bits(), 0);
+            assert_eq!(output, after.real.filled[0][..cut]);
         }
     });
 }
@@ -132,25 +138,31 @@ fn no_output_depends_on_a_later_sample() {
 /// The plain program of the timing does the same work.
 #[test]
 fn plain_program_equals_model() {
-    each_run(1_000, |pair, generator| {
-        let run = generator.run(&pair.record());
-        let mut plain = pair.real.clone();
-        plain.output.clone_from(&run.output);
-        if let Some(record) = run.record {
-            plain.record[..28].copy_from_slice(&record);
+    each_run(1_000, |before, after, run| {
+        let mut plain = before.real.clone();
+        plain.prepare(run.step);
+        let (record, array, mut filled) = plain.lend(run.step);
+        let answer = plain_pins::run(record, array, run.samples, filled[0]);
+        assert_eq!(answer, run.seen.answer());
+        assert_eq!(plain.filled, after.modelled.filled);
+        assert_eq!(plain.array, after.modelled.array);
+        if answer == 0 && plain.record[0] == after.record().part {
+            assert_eq!(plain.record, after.modelled.record);
         }
-        let answer = plain_pins::run(
-            &mut plain.record[..run.record_len],
-            &mut plain.array[..run.array_len],
-            &run.samples,
-            &mut plain.output[..run.output_len],
-        );
-        let outcome = pair.run(&run, &mut PinsTally::default()).unwrap();
-        assert_eq!(answer, outcome.answer);
-        assert_eq!(plain.output, pair.modelled.output);
-        assert_eq!(plain.array, pair.modelled.array);
-        if answer == 0 && plain.record[0] as usize == pair.record().part as usize {
-            assert_eq!(plain.record, pair.modelled.record);
+    });
+}
+
+/// The command `pins` counts the transactions, by how they end, as the model does.
+#[test]
+fn command_counts_as_the_model() {
+    each_run(1_000, |_, _, run| {
+        if run.seen.answer() != 0 {
+            return;
         }
+        let count = |ended: fn(End) -> bool| run.seen.found.iter().filter(|f| ended(f.end)).count();
+        let ended = count(|end| matches!(end, End::Risen { .. }));
+        let thrown_away = count(|end| end == End::ThrownAway);
+        let unfinished = count(|end| end == End::Unfinished);
+        assert_eq!(Ends::of(run.samples), Ends { ended, thrown_away, unfinished });
     });
 }

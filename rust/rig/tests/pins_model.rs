@@ -5,13 +5,13 @@
 //! letter for each sample, 0, 1, or z for not driven.
 
 use m25p::calls;
-use rig::model::{Mode, Model, Record, Transaction, CODES};
+use rig::model::{Mode, Model, Packed, Paper, Record, Transaction, CODES, RECORD_BYTES};
 use rig::pins_model::{Outcome, PinsModel, CLOCK, DATA, HOLD, REST, SELECT, W};
 use rig::rng::Rng;
 
 /// A bench part in standby, with A5 3C at address 0.
 struct Case {
-    record: [u8; 28],
+    record: Packed,
     array: Vec<u8>,
 }
 
@@ -68,8 +68,7 @@ impl Case {
         let mut output = vec![9; samples.len()];
         let (mut record, mut array, mut real) = (self.record, self.array.clone(), output.clone());
         let reply = calls::pins(&mut record, &mut array, &samples, &mut real);
-        let model = PinsModel::right();
-        let outcome = model.run(&mut self.record, &mut self.array, &samples, &mut output);
+        let outcome = Paper.run(&mut self.record, &mut self.array, &samples, &mut output);
         assert_eq!(reply.bits(), outcome.answer as u64, "{words}");
         assert_eq!((record, &array, &real), (self.record, &self.array, &output), "{words}");
         let shown = output[output.len() - last..].iter();
@@ -308,13 +307,13 @@ fn refusals_in_order() {
         let (mut record, mut array) = (record.to_vec(), vec![0x77; array]);
         let mut output = vec![9; output];
         let before = (record.clone(), array.clone(), output.clone());
-        let outcome = PinsModel::right().run(&mut record, &mut array, samples, &mut output);
+        let outcome = Paper.run(&mut record, &mut array, samples, &mut output);
         let unchanged = before == (record, array, output);
         assert!(outcome.answer == 0 || unchanged && outcome.found.is_empty());
         outcome.answer
     };
-    assert_eq!(answer(&[0; 27], 0, &[0xFF], 0), 8);
-    assert_eq!(answer(&[9; 28], 0, &[0xFF], 0), 6);
+    assert_eq!(answer(&[0; RECORD_BYTES - 1], 0, &[0xFF], 0), 8);
+    assert_eq!(answer(&[9; RECORD_BYTES], 0, &[0xFF], 0), 6);
     assert_eq!(answer(&sound, 4_095, &[0xFF], 0), 2);
     for sample in [0x20, 0x40, 0x80] {
         assert_eq!(answer(&sound, 4_096, &[REST, REST, sample], 0), 21);
@@ -333,7 +332,7 @@ fn more_than_65536_bytes_are_refused() {
     let answer = |samples: Vec<u8>| {
         let mut case = case(worked());
         let mut output = vec![0; samples.len()];
-        PinsModel::right().run(&mut case.record, &mut case.array, &samples, &mut output).answer
+        Paper.run(&mut case.record, &mut case.array, &samples, &mut output).answer
     };
     let most = 8 * 65_536;
     assert_eq!(answer(bits(most + 7)), 0);
@@ -348,7 +347,7 @@ fn more_than_65536_bytes_are_refused() {
 fn output_bytes_beyond_the_samples_are_untouched() {
     let mut case = case(worked());
     let mut output = [9; 4];
-    PinsModel::right().run(&mut case.record, &mut case.array, &[REST, HOLD], &mut output);
+    Paper.run(&mut case.record, &mut case.array, &[REST, HOLD], &mut output);
     assert_eq!(output, [2, 2, 9, 9]);
 }
 
@@ -364,12 +363,11 @@ fn driven_after_the_bytes_before() {
                 let mut sent = rng.bytes(n);
                 sent[0] = code;
                 let (mut response, t) = (vec![0; n], Transaction { sent: &sent, pulses: 0, w: 1 });
-                let model = Model::right();
-                let outcome = model.transact(&mut chip.record, &mut chip.array, t, &mut response);
+                let outcome = Paper.transact(&mut chip.record, &mut chip.array, t, &mut response);
                 for i in 0..n {
                     let mut line = sent[..i].to_vec();
                     line.push(rng.byte());
-                    let driven = model.drives_last(&start, &array, &line);
+                    let driven = Paper.drives_last(&start, &array, &line);
                     let counted = (outcome.first..outcome.first + outcome.count).contains(&i);
                     assert_eq!(driven, counted.then_some(response[i]), "{sent:02X?} byte {i}");
                 }

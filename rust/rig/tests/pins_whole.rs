@@ -1,14 +1,12 @@
 //! m25p_pins against the model on whole ranges: every short run, and the longest transactions.
 
-use std::io::Write;
-
-use rig::compare::SPARE;
-use rig::model::{Record, PARTS, RDSR, READ, WREN};
-use rig::pins_compare::{PinsPair, PinsTally};
-use rig::pins_generate::Run;
-use rig::pins_model::{PinFault, CLOCK, DATA, HOLD, MOST_BYTES, SELECT, W};
+use rig::compare::{Call, Filled, Pair, Rules, Step, Tally, PAPER, SPARE};
+use rig::faults;
+use rig::model::{Record, PARTS, RDSR, READ, RECORD_BYTES, WREN};
+use rig::pins_model::{CLOCK, DATA, HOLD, MOST_BYTES, SELECT, W};
 use rig::probe::{Probe, SpiMode};
 use rig::rng::Rng;
+use rig::tell;
 
 /// A bench part in standby with status byte 84 and the latch reset.
 fn standby() -> Record {
@@ -16,11 +14,11 @@ fn standby() -> Record {
 }
 
 /// A run of the samples from the standby record, with an output just long enough.
-fn run(samples: Vec<u8>) -> Run {
-    let (output_len, array_len) = (samples.len(), PARTS[0].bytes);
-    let output = vec![9; output_len + SPARE];
+fn run(samples: Vec<u8>) -> Step {
+    let filled = vec![Filled { bytes: vec![9; samples.len() + SPARE], len: samples.len() }];
     let record = Some(standby().pack());
-    Run { samples, output, output_len, record, record_len: 28, array_len }
+    let (record_len, array_len) = (RECORD_BYTES, PARTS[0].bytes);
+    Step { call: Call::Pins { samples }, record, record_len, array_len, filled }
 }
 
 /// Transactions that have begun: nothing at all, and RDSR and WREN up to the last clock rise or fall.
@@ -52,17 +50,17 @@ fn six(code: u64, rng: &mut Rng) -> impl Iterator<Item = u8> {
 #[test]
 fn every_six_samples() {
     let mut rng = Rng::new(1);
-    let mut pair = PinsPair::new(standby(), PinFault::None, &mut rng);
-    let mut tally = PinsTally::default();
+    let mut pair = Pair::new(standby(), PAPER, &mut rng);
+    let mut tally = Tally::default();
     for begun in beginnings() {
         for code in 0..1 << 18 {
             let samples = begun.iter().copied().chain(six(code, &mut rng)).collect();
-            if let Err(difference) = pair.run(&run(samples), &mut tally) {
+            if let Err(difference) = pair.step(&run(samples), &mut tally) {
                 panic!("{difference}");
             }
         }
     }
-    assert_eq!(tally.answers[0], tally.runs);
+    assert_eq!(tally.answers[0], tally.calls);
 }
 
 /// How a long transaction ends.
@@ -74,7 +72,7 @@ enum Ending {
 }
 
 /// A status read, then a READ of this many bytes and pulses.
-fn long(mode: SpiMode, bytes: usize, pulses: u32, ending: Ending) -> Run {
+fn long_samples(mode: SpiMode, bytes: usize, pulses: u32, ending: Ending) -> Vec<u8> {
     let mut probe = Probe::new(mode, 1);
     probe.transaction(&[RDSR, 0], 0, true);
     let mut sent = vec![0; bytes];
@@ -86,13 +84,14 @@ fn long(mode: SpiMode, bytes: usize, pulses: u32, ending: Ending) -> Run {
     if let Ending::ThrownAway = ending {
         probe.samples.extend([W, W, SELECT | W]);
     }
-    run(probe.samples)
+    probe.samples
 }
 
 /// Runs with a transaction of about 65,536 bytes, and the answer to each.
-fn long_runs() -> Vec<(Run, usize)> {
+fn long_runs() -> Vec<(Step, u8)> {
     use Ending::*;
     use SpiMode::*;
+    let long = |mode, bytes, pulses, ending| run(long_samples(mode, bytes, pulses, ending));
     let mut runs = vec![
         (long(Zero, MOST_BYTES, 0, Risen), 0),
         (long(Zero, MOST_BYTES, 7, Unfinished), 0),
@@ -102,47 +101,42 @@ fn long_runs() -> Vec<(Run, usize)> {
         (long(Zero, MOST_BYTES + 1, 0, ThrownAway), 22),
         (long(Three, MOST_BYTES + 1, 0, Unfinished), 22),
     ];
-    let too_long = || long(Zero, MOST_BYTES + 1, 0, Risen);
-    let mut odd_last = too_long();
-    *odd_last.samples.last_mut().unwrap() |= 0x80;
-    runs.push((odd_last, 21));
-    let mut short_output = too_long();
-    short_output.output_len -= 1;
+    let mut odd_last = long_samples(Zero, MOST_BYTES + 1, 0, Risen);
+    *odd_last.last_mut().unwrap() |= 0x80;
+    runs.push((run(odd_last), 21));
+    let mut short_output = long(Zero, MOST_BYTES + 1, 0, Risen);
+    short_output.filled[0].len -= 1;
     runs.push((short_output, 22));
-    let mut wrong_array = too_long();
+    let mut wrong_array = long(Zero, MOST_BYTES + 1, 0, Risen);
     wrong_array.array_len -= 1;
     runs.push((wrong_array, 2));
-    let mut twice = long(Zero, MOST_BYTES, 0, Risen);
-    twice.samples.extend_from_within(..);
-    twice.output_len = twice.samples.len();
-    twice.output.resize(twice.output_len + SPARE, 9);
-    runs.push((twice, 0));
+    runs.push((run(long_samples(Zero, MOST_BYTES, 0, Risen).repeat(2)), 0));
     runs
 }
 
-fn compared(fault: PinFault, tally: &mut PinsTally) -> Result<(), String> {
-    let mut pair = PinsPair::new(standby(), fault, &mut Rng::new(2));
+fn compared(rules: Rules, tally: &mut Tally) -> Result<(), String> {
+    let mut pair = Pair::new(standby(), rules, &mut Rng::new(2));
     for (run, answer) in long_runs() {
-        let outcome = pair.run(&run, tally)?;
-        assert_eq!(outcome.answer as usize, answer);
+        let seen = pair.step(&run, tally)?;
+        assert_eq!(seen.answer(), answer);
     }
     Ok(())
 }
 
 #[test]
 fn longest_transactions() {
-    let mut tally = PinsTally::default();
-    if let Err(difference) = compared(PinFault::None, &mut tally) {
+    let mut tally = Tally::default();
+    if let Err(difference) = compared(PAPER, &mut tally) {
         panic!("{difference}");
     }
-    let _ = writeln!(std::io::stderr(), "pins, longest transactions: {}", tally.show());
+    tell(&format!("pins, longest transactions: {}", tally.show()));
     assert_eq!(tally.answers[22], 5);
 }
 
 #[test]
 fn faults_are_seen() {
-    for fault in PinFault::LONG {
-        let seen = compared(fault, &mut PinsTally::default()).is_err();
-        assert!(seen, "{fault:?} was not seen");
+    for (name, fault) in faults::LONG {
+        let seen = compared(Rules { pins: *fault, ..PAPER }, &mut Tally::default()).is_err();
+        assert!(seen, "{name} was not seen");
     }
 }

@@ -9,10 +9,10 @@ use std::path::{Path, PathBuf};
 use std::process::Command;
 
 use m25p::calls;
-use rig::compare::Call;
+use rig::compare::{Call, Source};
 use rig::generate::Generator;
-use rig::model::{Mode, Record, PARTS};
-use rig::pins_model::{End, PinFault, Walk, NOT_DRIVEN};
+use rig::model::{Mode, Packed, Paper, Record, PARTS};
+use rig::pins_model::{End, Walking, NOT_DRIVEN};
 use rig::probe::{Probe, SpiMode};
 use rig::rng::Rng;
 use tools::vcd::{self, Undriven};
@@ -68,7 +68,7 @@ fn transactions(part: usize, now: Record, rng: &mut Rng) -> Vec<Sent> {
     ];
     let mut generator = Generator::new(part, rng.draw());
     while all.len() < 20 {
-        if let Call::Transact { mut sent, pulses, w, .. } = generator.step(&now).call {
+        if let Call::Transact { mut sent, pulses, w } = generator.step(&now).call {
             sent.truncate(300);
             all.push((sent, pulses % 8, w != 0));
         }
@@ -78,7 +78,7 @@ fn transactions(part: usize, now: Record, rng: &mut Rng) -> Vec<Sent> {
 
 /// A chip: its packed record and its array.
 struct Chip {
-    record: [u8; 28],
+    record: Packed,
     array: Vec<u8>,
 }
 
@@ -110,7 +110,7 @@ fn compare(name: &str, start: &Chip, all: &[Sent], mode: SpiMode, half: usize) {
     let samples = probe.samples;
     let bytes: Vec<Vec<u8>> = all.iter().map(|(sent, _, _)| sent.clone()).collect();
 
-    let found = Walk::of(&samples, PinFault::None).found;
+    let found = Paper.walk(&samples).found;
     let risen = found.iter().filter(|found| found.end != End::Unfinished);
     assert_eq!(risen.map(|found| found.sent()).collect::<Vec<_>>(), bytes, "{name}: model");
     let file = written(&format!("{name}.bin"), &samples);

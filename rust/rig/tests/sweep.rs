@@ -1,7 +1,7 @@
 //! libm25p.a against the model on whole ranges: every first byte in every state, and every length.
 
-use rig::compare::{Call, Pair, Step, Tally, SPARE};
-use rig::model::{Fault, Mode, Record, CODES, PARTS};
+use rig::compare::{Call, Filled, Pair, Step, Tally, PAPER, SPARE};
+use rig::model::{Mode, Record, CODES, PARTS, RECORD_BYTES};
 use rig::rng::Rng;
 
 /// Records of the part that differ in what the chip looks at.
@@ -33,7 +33,7 @@ struct Sweep {
 impl Sweep {
     fn new(part: u8) -> Sweep {
         let mut rng = Rng::new(part as u64);
-        let pair = Pair::new(states(part)[0], Fault::None, &mut rng);
+        let pair = Pair::new(states(part)[0], PAPER, &mut rng);
         Sweep { pair, rng, tally: Tally::default() }
     }
 
@@ -43,10 +43,10 @@ impl Sweep {
         if n > 0 {
             sent[0] = code;
         }
-        let response = self.rng.bytes(n + SPARE);
-        let call = Call::Transact { sent, pulses, w, response, response_len: n };
-        let array_len = PARTS[from.part as usize].bytes;
-        let step = Step { call, record: Some(from.pack()), record_len: 28, array_len };
+        let filled = vec![Filled { bytes: self.rng.bytes(n + SPARE), len: n }];
+        let call = Call::Transact { sent, pulses, w };
+        let (record_len, array_len) = (RECORD_BYTES, PARTS[from.part as usize].bytes);
+        let step = Step { call, record: Some(from.pack()), record_len, array_len, filled };
         if let Err(difference) = self.pair.step(&step, &mut self.tally) {
             panic!("{difference}");
         }

@@ -15,7 +15,7 @@ use std::thread;
 use common::scratch;
 use flashrom::{find, tell, Flashrom};
 use m25p::{Part, RECORD_BYTES};
-use rig::model::{Model, Transaction, PARTS};
+use rig::model::{Model, Paper, Transaction, PARTS};
 use rig::rng::Rng;
 use tools::serprog::{Options, Server};
 
@@ -60,20 +60,19 @@ fn traced(old: &[u8], new: &[u8]) -> Option<String> {
 
 /// Carries a line of the trace out on the model: what should stand behind the `=`.
 fn model_answer(record: &mut [u8], array: &mut [u8], line: &str) -> String {
-    let model = Model::right();
     let fields: Vec<&str> = line.split(' ').collect();
     let hex: String;
     let answer = match fields[..] {
         ["w", ticks] => {
             hex = "-".to_string();
-            model.wait(record, ticks.parse().unwrap()).answer
+            Paper.wait(record, ticks.parse().unwrap()).answer
         }
         ["x", w, "0", pairs] => {
             let pair = |at| u8::from_str_radix(&pairs[at..at + 2], 16).unwrap();
             let sent: Vec<u8> = (0..pairs.len()).step_by(2).map(pair).collect();
             let mut response = vec![0; sent.len()];
             let t = Transaction { sent: &sent, pulses: 0, w: w.parse().unwrap() };
-            let outcome = model.transact(record, array, t, &mut response);
+            let outcome = Paper.transact(record, array, t, &mut response);
             hex = response.iter().map(|byte| format!("{byte:02X}")).collect();
             outcome.answer
         }
@@ -89,7 +88,7 @@ fn trace_equals_model() {
     let (old, new) = (Rng::new(10).bytes(bytes), Rng::new(11).bytes(bytes));
     let Some(printed) = traced(&old, &new) else { return };
     let (mut record, mut array) = ([0; RECORD_BYTES], old.clone());
-    Model::right().deliver(&mut record, 1, &mut array, [2, 1_000, 10_000, 5]);
+    Paper.deliver(&mut record, 1, &mut array, [2, 1_000, 10_000, 5]);
     array.copy_from_slice(&old);
     for line in printed.lines() {
         let (asked, answered) = line.split_once(" = ").expect("a line of the trace");

@@ -2,6 +2,12 @@
 
 use super::part::{Part, PARTS};
 
+/// The length of a packed record.
+pub const RECORD_BYTES: usize = 28;
+
+/// A packed record.
+pub type Packed = [u8; RECORD_BYTES];
+
 #[derive(Clone, Copy, Debug, PartialEq, Eq)]
 pub enum Mode {
     Standby,
@@ -78,13 +84,13 @@ impl Record {
         u8::from(self.srwd) << 7 | self.bp << 2 | u8::from(self.latch) << 1 | u8::from(busy)
     }
 
-    pub fn pack(&self) -> [u8; 28] {
+    pub fn pack(&self) -> Packed {
         let (mode, left) = match self.mode {
             Mode::Standby => (0, 0),
             Mode::Busy(left) => (1, left),
             Mode::Deep => (2, 0),
         };
-        let mut bytes = [0; 28];
+        let mut bytes = [0; RECORD_BYTES];
         bytes[0] = self.part;
         bytes[1] = self.bp;
         bytes[2] = u8::from(self.srwd);
@@ -98,7 +104,7 @@ impl Record {
         bytes
     }
 
-    /// The sound record that packs to these 28 bytes, if there is one.
+    /// The sound record that packs to these bytes, if there is one.
     pub fn unpack(bytes: &[u8]) -> Option<Record> {
         let left = number(bytes, 8);
         let mode = match (bytes[4], left) {

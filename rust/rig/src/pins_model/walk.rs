@@ -1,10 +1,11 @@
 //! The pins alone, sample by sample: which transactions there are, and how far the output has moved on.
 
-use super::{PinFault, CLOCK, DATA, HOLD, REST, SELECT, W};
+use super::{CLOCK, DATA, HOLD, REST, SELECT, W};
+use crate::model::Paper;
 
 /// The hold of a selected chip.
 #[derive(Clone, Copy, Debug, PartialEq, Eq)]
-enum Holding {
+pub enum Holding {
     No,
     /// Hold fell with the clock high: the hold starts when the clock next falls.
     StartWaits,
@@ -53,204 +54,180 @@ pub struct Walk {
     pub shown: Vec<Option<usize>>,
 }
 
-impl Walk {
-    pub fn of(samples: &[u8], fault: PinFault) -> Walk {
-        let mut walker = Walker::new(fault);
-        if let (PinFault::RestIsFirstSample, Some(first)) = (fault, samples.first()) {
-            walker.levels = *first | SELECT;
-        }
-        let shown = samples.iter().map(|sample| walker.sample(*sample)).collect();
-        if walker.selected() {
-            walker.close(End::Unfinished);
-        }
-        Walk { found: walker.found, shown }
-    }
-}
-
 /// The pins between two samples.
-pub struct Walker {
-    fault: PinFault,
+pub struct Pins {
+    pub levels: u8,
+    /// The levels before the sample that is being taken.
+    pub before: u8,
+    pub holding: Holding,
+    /// How many bits were taken as the output last moved on.
+    pub moved: Option<usize>,
+    /// The bits of the running transaction.
+    pub bits: Vec<bool>,
     samples: usize,
-    levels: u8,
-    holding: Holding,
-    moved: Option<usize>,
-    w_before: u8,
     from: usize,
-    bits: Vec<bool>,
     found: Vec<Found>,
 }
 
-impl Walker {
-    /// At rest.
-    pub fn new(fault: PinFault) -> Walker {
-        let (levels, holding, moved, w_before) = (REST, Holding::No, None, W);
+impl Pins {
+    pub fn new(levels: u8) -> Pins {
         let (bits, found) = (Vec::new(), Vec::new());
-        Walker { fault, samples: 0, levels, holding, moved, w_before, from: 0, bits, found }
+        let (holding, moved, samples, from) = (Holding::No, None, 0, 0);
+        Pins { levels, before: levels, holding, moved, bits, samples, from, found }
     }
 
     pub fn selected(&self) -> bool {
-        self.levels & SELECT == 0
+        !self.high(SELECT)
     }
 
-    /// How many bits of the running transaction were taken.
-    pub fn taken(&self) -> usize {
-        self.bits.len()
-    }
-
-    fn high(&self, pin: u8) -> bool {
+    pub fn high(&self, pin: u8) -> bool {
         self.levels & pin != 0
+    }
+
+    /// In a hold, one whose end still waits included.
+    pub fn held(&self) -> bool {
+        matches!(self.holding, Holding::Yes | Holding::EndWaits)
     }
 
     fn set(&mut self, pins: u8, now: u8) {
         self.levels = self.levels & !pins | now & pins;
     }
 
-    /// One sample: data and W are its levels; a Select change first, then the clock, then Hold.
-    pub fn sample(&mut self, now: u8) -> Option<usize> {
-        self.w_before = self.levels & W;
-        let before = self.levels;
-        self.set(DATA | W, now);
-        if self.fault == PinFault::DataFromBefore {
-            self.set(DATA, before);
+    /// A transaction begins, outside a hold.
+    pub fn open(&mut self) {
+        self.from = self.samples;
+        self.bits.clear();
+        self.moved = None;
+        self.holding = Holding::No;
+    }
+
+    pub fn close(&mut self, end: End) {
+        let bits = std::mem::take(&mut self.bits);
+        self.found.push(Found { from: self.from, to: self.samples, bits, end });
+    }
+}
+
+/// The rules of the pins.
+pub trait Walking: Sync {
+    fn walk(&self, samples: &[u8]) -> Walk {
+        let mut pins = Pins::new(self.rest(samples));
+        let shown = samples.iter().map(|sample| self.sample(&mut pins, *sample)).collect();
+        if pins.selected() {
+            pins.close(End::Unfinished);
         }
-        let order = match self.fault {
-            PinFault::ClockBeforeSelect => [CLOCK, SELECT, HOLD],
-            PinFault::HoldBeforeClock => [SELECT, HOLD, CLOCK],
-            PinFault::HoldBeforeSelect => [HOLD, SELECT, CLOCK],
-            _ => [SELECT, CLOCK, HOLD],
-        };
-        for pin in order {
-            let was = self.high(pin);
-            self.set(pin, now);
-            match (was, self.high(pin)) {
-                (false, true) => self.rises(pin),
-                (true, false) => self.falls(pin),
+        Walk { found: pins.found, shown }
+    }
+
+    /// The pins before the first sample.
+    fn rest(&self, _: &[u8]) -> u8 {
+        REST
+    }
+
+    /// One sample: data and W are its levels; the other pins change in their order.
+    fn sample(&self, pins: &mut Pins, now: u8) -> Option<usize> {
+        pins.before = pins.levels;
+        pins.set(DATA | W, now);
+        for pin in self.order() {
+            let was = pins.high(pin);
+            pins.set(pin, now);
+            match (was, pins.high(pin)) {
+                (false, true) => self.rises(pins, pin),
+                (true, false) => self.falls(pins, pin),
                 _ => {}
             }
         }
-        self.set(DATA, now);
-        self.samples += 1;
-        let held = matches!(self.holding, Holding::Yes | Holding::EndWaits);
-        let silent = held && self.fault != PinFault::DrivesInHold;
-        self.moved.filter(|_| self.selected() && !silent)
+        pins.samples += 1;
+        self.shown(pins)
     }
 
-    fn falls(&mut self, pin: u8) {
+    /// A Select change is taken first, then the clock, then Hold.
+    fn order(&self) -> [u8; 3] {
+        [SELECT, CLOCK, HOLD]
+    }
+
+    /// With Select low and no hold the output shows what it has moved on to.
+    fn shown(&self, pins: &Pins) -> Option<usize> {
+        pins.moved.filter(|_| pins.selected() && !pins.held())
+    }
+
+    fn falls(&self, pins: &mut Pins, pin: u8) {
         match pin {
-            SELECT => self.select_falls(),
-            CLOCK if self.selected() => self.clock_falls(),
-            HOLD if self.selected() => self.hold_falls(),
+            SELECT => self.select_falls(pins),
+            CLOCK if pins.selected() => self.clock_falls(pins),
+            HOLD if pins.selected() => self.hold_falls(pins),
             _ => {}
         }
     }
 
-    fn rises(&mut self, pin: u8) {
+    fn rises(&self, pins: &mut Pins, pin: u8) {
         match pin {
-            SELECT => self.select_rises(),
-            CLOCK if self.selected() => self.clock_rises(),
-            HOLD if self.selected() => self.hold_rises(),
+            SELECT => self.select_rises(pins),
+            CLOCK if pins.selected() => self.clock_rises(pins),
+            HOLD if pins.selected() => self.hold_rises(pins),
             _ => {}
         }
     }
 
     /// A transaction begins; Hold low, as it was before this sample, counts as a fall now.
-    fn select_falls(&mut self) {
-        self.from = self.samples;
-        self.bits.clear();
-        self.moved = None;
-        self.holding = Holding::No;
-        if !self.high(HOLD) && self.fault != PinFault::LowHoldUnseen {
-            self.hold_falls();
+    fn select_falls(&self, pins: &mut Pins) {
+        pins.open();
+        if !pins.high(HOLD) {
+            self.hold_falls(pins);
         }
     }
 
     /// The transaction ends; in a hold it is thrown away.
-    fn select_rises(&mut self) {
-        let w = match self.fault {
-            PinFault::WFromBefore => self.w_before != 0,
-            _ => self.high(W),
-        };
-        let thrown = match self.holding {
-            Holding::No => false,
-            Holding::StartWaits => self.fault == PinFault::WaitingStartThrows,
-            Holding::Yes => true,
-            Holding::EndWaits => self.fault != PinFault::WaitingEndCarriesOut,
-        };
-        self.close(if thrown { End::ThrownAway } else { End::Risen { w } });
-    }
-
-    fn close(&mut self, end: End) {
-        let bits = std::mem::take(&mut self.bits);
-        self.found.push(Found { from: self.from, to: self.samples, bits, end });
+    fn select_rises(&self, pins: &mut Pins) {
+        let w = pins.high(W);
+        pins.close(if pins.held() { End::ThrownAway } else { End::Risen { w } });
     }
 
     /// Outside a hold a bit is taken.
-    fn clock_rises(&mut self) {
-        match self.holding {
-            Holding::No | Holding::StartWaits => self.bits.push(self.high(DATA)),
-            _ if self.fault == PinFault::TakesInHold => self.bits.push(self.high(DATA)),
-            Holding::Yes | Holding::EndWaits => {}
-        }
-        if self.fault == PinFault::MovesOnRise {
-            self.moved = Some(self.bits.len());
+    fn clock_rises(&self, pins: &mut Pins) {
+        if !pins.held() {
+            pins.bits.push(pins.high(DATA));
         }
     }
 
     /// Outside a hold the output moves on; then a waiting start or end comes about.
-    fn clock_falls(&mut self) {
-        match self.holding {
-            Holding::No => self.move_on(),
+    fn clock_falls(&self, pins: &mut Pins) {
+        match pins.holding {
+            Holding::No => self.move_on(pins),
             Holding::StartWaits => {
-                if self.fault != PinFault::WaitingStartKeepsBit {
-                    self.move_on();
-                }
-                self.holding = Holding::Yes;
+                self.move_on(pins);
+                pins.holding = Holding::Yes;
             }
             Holding::Yes => {}
-            Holding::EndWaits => self.hold_ends(),
+            Holding::EndWaits => self.hold_ends(pins),
         }
     }
 
-    fn move_on(&mut self) {
-        let taken = self.bits.len();
-        self.moved = match self.fault {
-            PinFault::MovesOnRise => self.moved,
-            PinFault::OneFallLate => taken.checked_sub(1),
-            _ => Some(taken),
-        };
+    fn move_on(&self, pins: &mut Pins) {
+        pins.moved = Some(pins.bits.len());
     }
 
-    fn hold_ends(&mut self) {
-        self.holding = Holding::No;
-        match self.fault {
-            PinFault::SilentAfterHold => self.moved = None,
-            PinFault::HoldDropsBits => self.bits.truncate(self.bits.len() / 8 * 8),
-            _ => {}
-        }
+    fn hold_ends(&self, pins: &mut Pins) {
+        pins.holding = Holding::No;
     }
 
     /// The hold starts if the clock is low, or else waits; a waiting end is undone.
-    fn hold_falls(&mut self) {
-        let now = !self.high(CLOCK) || self.fault == PinFault::HoldStartsAtOnce;
-        self.holding = match self.holding {
-            Holding::No if now => Holding::Yes,
-            Holding::No => Holding::StartWaits,
-            Holding::EndWaits if self.fault == PinFault::UndoneRiseCounts => Holding::EndWaits,
-            Holding::EndWaits => Holding::Yes,
+    fn hold_falls(&self, pins: &mut Pins) {
+        pins.holding = match pins.holding {
+            Holding::No if pins.high(CLOCK) => Holding::StartWaits,
+            Holding::No | Holding::EndWaits => Holding::Yes,
             other => other,
         };
     }
 
     /// The hold ends if the clock is low, or else waits; a waiting start is undone.
-    fn hold_rises(&mut self) {
-        match self.holding {
-            Holding::Yes if !self.high(CLOCK) => self.hold_ends(),
-            Holding::Yes if self.fault == PinFault::HoldEndsAtOnce => self.hold_ends(),
-            Holding::Yes => self.holding = Holding::EndWaits,
-            Holding::StartWaits if self.fault != PinFault::UndoneFallCounts => {
-                self.holding = Holding::No;
-            }
+    fn hold_rises(&self, pins: &mut Pins) {
+        match pins.holding {
+            Holding::Yes if pins.high(CLOCK) => pins.holding = Holding::EndWaits,
+            Holding::Yes => self.hold_ends(pins),
+            Holding::StartWaits => pins.holding = Holding::No,
             _ => {}
         }
     }
 }
+
+impl Walking for Paper {}
