@@ -1,8 +1,8 @@
-//! The answers of the calls: the paper's numbers, and the 64 bits that carry them.
+//! The answers of the calls: their numbers, and the 64 bits that carry them.
 
 use std::fmt;
 
-/// What a call answers, with the paper's number.
+/// What a call answers, with the number that it has in the C calls.
 ///
 /// From 1 to 8 and from 21 on, the call was refused and has changed nothing. From 11 to 18 the chip ignored
 /// the transaction: record and array stay, and what it drives reads FF.
@@ -76,7 +76,7 @@ impl Answer {
         Answer::OutputLength,
     ];
 
-    /// The paper's number.
+    /// The number in the C calls.
     pub const fn number(self) -> u8 {
         self as u8
     }

@@ -7,6 +7,7 @@ pub mod bench_model;
 pub mod compare;
 pub mod faults;
 pub mod generate;
+// C programs of the tests are built as the bridge of m25p is.
 #[path = "../../m25p/src/kit.rs"]
 pub mod kit;
 pub mod model;

@@ -87,9 +87,10 @@ pub trait PinsModel: Walking {
     fn show(&self, walk: &Walk, found: &Found, r: &Record, array: &[u8], output: &mut [u8]) {
         let mut line = found.sent();
         line.push(0);
-        for i in found.from..found.to {
-            let Some(m) = walk.shown[i] else { continue };
-            output[i] = match Paper.drives_last(r, array, &line[..=m / 8]) {
+        let ran = output[found.from..found.to].iter_mut().zip(&walk.shown[found.from..]);
+        for (byte, shown) in ran {
+            let Some(m) = *shown else { continue };
+            *byte = match Paper.drives_last(r, array, &line[..=m / 8]) {
                 Some(driven) => self.bit(driven, m % 8),
                 None => NOT_DRIVEN,
             };

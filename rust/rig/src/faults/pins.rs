@@ -94,11 +94,10 @@ struct UnfinishedByteSilent;
 impl PinsModel for UnfinishedByteSilent {
     fn show(&self, walk: &Walk, found: &Found, r: &Record, array: &[u8], output: &mut [u8]) {
         Paper.show(walk, found, r, array, output);
-        for i in found.from..found.to {
-            if walk.shown[i].is_some_and(|m| m / 8 >= found.sent().len()) {
-                output[i] = NOT_DRIVEN;
-            }
-        }
+        let whole = found.bits.len() / 8;
+        let ran = output[found.from..found.to].iter_mut().zip(&walk.shown[found.from..]);
+        ran.filter(|(_, shown)| shown.is_some_and(|m| m / 8 >= whole))
+            .for_each(|(byte, _)| *byte = NOT_DRIVEN);
     }
 }
 
