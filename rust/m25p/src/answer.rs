@@ -1,0 +1,170 @@
+//! The answers of the calls: their numbers, and the 64 bits that carry them.
+
+use std::fmt;
+
+/// What a call answers, with the number that it has in the C calls.
+///
+/// From 1 to 8 and from 21 on, the call was refused and has changed nothing. From 11 to 18 the chip ignored
+/// the transaction: record and array stay, and what it drives reads FF.
+#[derive(Clone, Copy, Debug, PartialEq, Eq, Hash)]
+#[repr(u8)]
+pub enum Answer {
+    /// The call was carried out.
+    Executed = 0,
+    /// Delivery: no such part.
+    UnknownPart = 1,
+    /// The array's length is not the part's.
+    ArrayLength = 2,
+    /// A transaction of more than 65,536 bytes.
+    SentLength = 3,
+    /// More than 7 further pulses.
+    Pulses = 4,
+    /// The response is shorter than what is sent.
+    ResponseLength = 5,
+    /// The record is not sound, or not packed so.
+    RecordUnsound = 6,
+    /// Delivery: a duration outside 1 to 1,000,000.
+    Duration = 7,
+    /// The packed record is not [`RECORD_BYTES`](crate::RECORD_BYTES) long.
+    RecordLength = 8,
+    /// No whole byte was sent.
+    NoBytes = 11,
+    /// The chip is busy, and this is not a status read.
+    Busy = 12,
+    /// The chip is in deep power-down, and this is not the release from it.
+    Deep = 13,
+    /// The first byte is not an instruction of this part.
+    UnknownCode = 14,
+    /// The number of bytes, or of further pulses, is not as the instruction needs.
+    WrongForm = 15,
+    /// The write enable latch is needed and not set.
+    LatchNeeded = 16,
+    /// The sector, or for a bulk erase anything, is protected.
+    Protected = 17,
+    /// The status register is frozen: SRWD is set and W is low.
+    StatusFrozen = 18,
+    /// Raw pins: a sample with one of the bits 5 to 7 set.
+    SampleBits = 21,
+    /// Raw pins: a transaction of more than 65,536 bytes.
+    PinsLength = 22,
+    /// Raw pins: the output is shorter than the samples.
+    OutputLength = 23,
+}
+
+impl Answer {
+    /// All answers, by number.
+    pub const ALL: [Answer; 20] = [
+        Answer::Executed,
+        Answer::UnknownPart,
+        Answer::ArrayLength,
+        Answer::SentLength,
+        Answer::Pulses,
+        Answer::ResponseLength,
+        Answer::RecordUnsound,
+        Answer::Duration,
+        Answer::RecordLength,
+        Answer::NoBytes,
+        Answer::Busy,
+        Answer::Deep,
+        Answer::UnknownCode,
+        Answer::WrongForm,
+        Answer::LatchNeeded,
+        Answer::Protected,
+        Answer::StatusFrozen,
+        Answer::SampleBits,
+        Answer::PinsLength,
+        Answer::OutputLength,
+    ];
+
+    /// The number in the C calls.
+    pub const fn number(self) -> u8 {
+        self as u8
+    }
+
+    /// The answer with this number.
+    pub fn numbered(number: u8) -> Option<Answer> {
+        Answer::ALL.into_iter().find(|answer| answer.number() == number)
+    }
+
+    /// Whether the chip ignored the transaction: 11 to 18.
+    pub const fn ignored(self) -> bool {
+        matches!(self.number(), 11..=18)
+    }
+
+    /// An error unless the call was carried out.
+    pub const fn executed(self) -> Result<(), Answer> {
+        match self {
+            Answer::Executed => Ok(()),
+            other => Err(other),
+        }
+    }
+
+    const fn words(self) -> &'static str {
+        match self {
+            Answer::Executed => "carried out",
+            Answer::UnknownPart => "there is no such part",
+            Answer::ArrayLength => "the array's length is not the part's",
+            Answer::SentLength => "more than 65,536 bytes are sent",
+            Answer::Pulses => "there are more than 7 further pulses",
+            Answer::ResponseLength => "the response is shorter than what is sent",
+            Answer::RecordUnsound => "the record is not sound, or not packed so",
+            Answer::Duration => "a duration is outside 1 to 1,000,000",
+            Answer::RecordLength => "the packed record has another length",
+            Answer::NoBytes => "no whole byte was sent",
+            Answer::Busy => "the chip is busy, and this is not a status read",
+            Answer::Deep => "the chip is in deep power-down, and this is not the release from it",
+            Answer::UnknownCode => "the first byte is not an instruction of this part",
+            Answer::WrongForm => "bytes or further pulses are not as the instruction needs",
+            Answer::LatchNeeded => "the write enable latch is needed and not set",
+            Answer::Protected => "the sector, or for a bulk erase anything, is protected",
+            Answer::StatusFrozen => "the status register is frozen: SRWD is set and W is low",
+            Answer::SampleBits => "a sample has one of the bits 5 to 7 set",
+            Answer::PinsLength => "a transaction has more than 65,536 bytes",
+            Answer::OutputLength => "the output is shorter than the samples",
+        }
+    }
+}
+
+impl fmt::Display for Answer {
+    fn fmt(&self, f: &mut fmt::Formatter) -> fmt::Result {
+        f.pad(self.words())
+    }
+}
+
+impl std::error::Error for Answer {}
+
+/// The 64 bits that a call returns: the answer, and for a transaction what was driven.
+#[derive(Clone, Copy, Debug, PartialEq, Eq)]
+pub struct Reply(u64);
+
+impl Reply {
+    pub(crate) const fn new(bits: u64) -> Reply {
+        Reply(bits)
+    }
+
+    /// The 64 bits as they came.
+    pub const fn bits(self) -> u64 {
+        self.0
+    }
+
+    /// The answer.
+    ///
+    /// # Panics
+    ///
+    /// Where the number is not in the table or one of the bits 48 to 63 is set: the library is another than
+    /// this crate was written for.
+    pub fn answer(self) -> Answer {
+        assert_eq!(self.0 >> 48, 0, "bits 48 to 63 of an answer are zero");
+        Answer::numbered(self.0 as u8).expect("an answer number of the table")
+    }
+
+    /// The first driven position.
+    pub const fn first(self) -> usize {
+        (self.0 >> 8) as u8 as usize
+    }
+
+    /// The driven count.
+    pub const fn count(self) -> usize {
+        (self.0 >> 16) as u32 as usize
+    }
+}

@@ -1,0 +1,42 @@
+//! The C calls on slices of any length: the same arguments in the same order, and the same 64 bits.
+//!
+//! [`Chip`](crate::Chip) is what most programs want. These are for records and arrays that are kept
+//! elsewhere, and for those that may be wrong: whatever is passed is checked and answered.
+
+use crate::library;
+use crate::{Durations, Reply};
+
+/// Makes record and array a part as it comes from the factory. Answers 8, 1, 2, 7 in this order.
+pub fn deliver(record: &mut [u8], part: u32, array: &mut [u8], durations: Durations) -> Reply {
+    Reply::new(library::deliver(record, part, array, durations.into()))
+}
+
+/// One transaction: `sent` is shifted in, then come `pulses` further clock pulses, and W is low for 0 as
+/// Chip Select rises, else high. Byte i of the response is what the chip drove during byte i, FF where it
+/// drove nothing; bytes behind what is sent stay. Answers 8, 6, 2, 3, 4, 5, then those of the chip.
+pub fn transact(
+    record: &mut [u8],
+    array: &mut [u8],
+    sent: &[u8],
+    pulses: u32,
+    w: u32,
+    response: &mut [u8],
+) -> Reply {
+    Reply::new(library::transact(record, array, sent, pulses, w, response))
+}
+
+/// Lets ticks pass. Answers 8, 6.
+pub fn wait(record: &mut [u8], ticks: u32) -> Reply {
+    Reply::new(library::wait(record, ticks))
+}
+
+/// Power off and on. Answers 8, 6.
+pub fn power_up(record: &mut [u8]) -> Reply {
+    Reply::new(library::power_up(record))
+}
+
+/// A run of raw pins, one byte for each sample (see [`pins`](crate::pins)): the transactions in it are
+/// carried out in order, and the output gets one byte for each sample. Answers 8, 6, 2, 21, 22, 23.
+pub fn pins(record: &mut [u8], array: &mut [u8], samples: &[u8], output: &mut [u8]) -> Reply {
+    Reply::new(library::pins(record, array, samples, output))
+}

@@ -1,0 +1,104 @@
+//! A chip that owns its record and its array.
+
+use std::ops::Range;
+
+use crate::calls;
+use crate::{Answer, Buffer, Durations, Part, Reply, RECORD_BYTES};
+
+/// A chip that owns its record and its array.
+///
+/// Its record is always sound and its array always of the part's size, so that of the refusals only those
+/// that a method names can come.
+#[derive(Clone, Debug, PartialEq)]
+pub struct Chip {
+    part: Part,
+    record: [u8; RECORD_BYTES],
+    array: Buffer,
+}
+
+/// What a transaction answered and drove.
+#[derive(Clone, Debug, PartialEq, Eq)]
+pub struct Response {
+    /// Whether it was executed, ignored or refused.
+    pub answer: Answer,
+    /// One byte for each byte sent: what the chip drove, FF where it drove nothing.
+    pub line: Vec<u8>,
+    driven: Range<usize>,
+}
+
+impl Response {
+    fn new(reply: Reply, line: Vec<u8>) -> Response {
+        let driven = reply.first()..reply.first() + reply.count();
+        Response { answer: reply.answer(), line, driven }
+    }
+
+    /// The bytes of the line that the chip drove.
+    pub fn driven(&self) -> &[u8] {
+        &self.line[self.driven.clone()]
+    }
+
+    /// The same, or the answer as an error unless the transaction was executed.
+    pub fn executed(self) -> Result<Response, Answer> {
+        self.answer.executed().map(|()| self)
+    }
+}
+
+impl Chip {
+    /// The part as it comes from the factory: the array all FF, nothing protected, the latch reset. The one
+    /// refusal is [`Answer::Duration`].
+    pub fn deliver(part: Part, durations: Durations) -> Result<Chip, Answer> {
+        let array = Buffer::from(vec![0; part.bytes()]);
+        let mut chip = Chip { part, record: [0; RECORD_BYTES], array };
+        let reply = calls::deliver(&mut chip.record, part.number(), &mut chip.array, durations);
+        reply.answer().executed().map(|()| chip)
+    }
+
+    /// One transaction: the bytes sent, the further clock pulses, and whether W is high as Chip Select rises.
+    /// Refused with [`Answer::SentLength`] or [`Answer::Pulses`]; the line is all FF then, too.
+    pub fn transact(&mut self, sent: &[u8], pulses: u32, w_high: bool) -> Response {
+        let mut line = vec![0xFF; sent.len()];
+        let w = u32::from(w_high);
+        let reply = calls::transact(&mut self.record, &mut self.array, sent, pulses, w, &mut line);
+        Response::new(reply, line)
+    }
+
+    /// A run of raw pins: one output byte for each sample, see [`pins`](crate::pins). Refused with
+    /// [`Answer::SampleBits`] or [`Answer::PinsLength`].
+    pub fn pins(&mut self, samples: &[u8]) -> Result<Vec<u8>, Answer> {
+        let mut output = vec![0; samples.len()];
+        let reply = calls::pins(&mut self.record, &mut self.array, samples, &mut output);
+        reply.answer().executed().map(|()| output)
+    }
+
+    /// Lets ticks pass; a cycle with no more ticks left ends.
+    pub fn wait(&mut self, ticks: u32) {
+        let reply = calls::wait(&mut self.record, ticks);
+        assert_eq!(reply.answer(), Answer::Executed, "a chip's record is sound");
+    }
+
+    /// Power off and on: standby, with the latch reset. The settings and the array are kept.
+    pub fn power_up(&mut self) {
+        let reply = calls::power_up(&mut self.record);
+        assert_eq!(reply.answer(), Answer::Executed, "a chip's record is sound");
+    }
+
+    /// The part.
+    pub fn part(&self) -> Part {
+        self.part
+    }
+
+    /// The packed record.
+    pub fn record(&self) -> &[u8; RECORD_BYTES] {
+        &self.record
+    }
+
+    /// The contents.
+    pub fn array(&self) -> &[u8] {
+        &self.array
+    }
+
+    /// The contents, to be set from outside, as a programmer on a bench would before the chip is soldered on.
+    pub fn array_mut(&mut self) -> &mut [u8] {
+        &mut self.array
+    }
+}

@@ -1,0 +1,109 @@
+//! The calls where libm25p.a is linked.
+
+extern "C" {
+    fn m25p_deliver(
+        record: *mut u8,
+        record_len: usize,
+        part: u32,
+        array: *mut u8,
+        array_len: usize,
+        program: u32,
+        sector_erase: u32,
+        bulk_erase: u32,
+        write_status: u32,
+    ) -> u64;
+    fn m25p_transact(
+        record: *mut u8,
+        record_len: usize,
+        array: *mut u8,
+        array_len: usize,
+        sent: *const u8,
+        sent_len: usize,
+        pulses: u32,
+        w: u32,
+        response: *mut u8,
+        response_len: usize,
+    ) -> u64;
+    fn m25p_wait(record: *mut u8, record_len: usize, ticks: u32) -> u64;
+    fn m25p_power_up(record: *mut u8, record_len: usize) -> u64;
+    fn m25p_pins(
+        record: *mut u8,
+        record_len: usize,
+        array: *mut u8,
+        array_len: usize,
+        samples: *const u8,
+        samples_len: usize,
+        output: *mut u8,
+        output_len: usize,
+    ) -> u64;
+}
+
+/// Bytes that a call is lent without a copy: any bytes are.
+pub type Held = Vec<u8>;
+
+// The functions below lend slices to the calls. Rust slices never overlap here, their memory is there
+// for their whole length, and the pointer of an empty one is not null.
+
+pub fn deliver(record: &mut [u8], part: u32, array: &mut [u8], durations: [u32; 4]) -> u64 {
+    let [program, sector_erase, bulk_erase, write_status] = durations;
+    unsafe {
+        m25p_deliver(
+            record.as_mut_ptr(),
+            record.len(),
+            part,
+            array.as_mut_ptr(),
+            array.len(),
+            program,
+            sector_erase,
+            bulk_erase,
+            write_status,
+        )
+    }
+}
+
+pub fn transact(
+    record: &mut [u8],
+    array: &mut [u8],
+    sent: &[u8],
+    pulses: u32,
+    w: u32,
+    response: &mut [u8],
+) -> u64 {
+    unsafe {
+        m25p_transact(
+            record.as_mut_ptr(),
+            record.len(),
+            array.as_mut_ptr(),
+            array.len(),
+            sent.as_ptr(),
+            sent.len(),
+            pulses,
+            w,
+            response.as_mut_ptr(),
+            response.len(),
+        )
+    }
+}
+
+pub fn wait(record: &mut [u8], ticks: u32) -> u64 {
+    unsafe { m25p_wait(record.as_mut_ptr(), record.len(), ticks) }
+}
+
+pub fn power_up(record: &mut [u8]) -> u64 {
+    unsafe { m25p_power_up(record.as_mut_ptr(), record.len()) }
+}
+
+pub fn pins(record: &mut [u8], array: &mut [u8], samples: &[u8], output: &mut [u8]) -> u64 {
+    unsafe {
+        m25p_pins(
+            record.as_mut_ptr(),
+            record.len(),
+            array.as_mut_ptr(),
+            array.len(),
+            samples.as_ptr(),
+            samples.len(),
+            output.as_mut_ptr(),
+            output.len(),
+        )
+    }
+}

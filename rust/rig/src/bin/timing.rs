@@ -1,0 +1,189 @@
+//! Times long reads, bulk erase and raw pins through the C calls against plain Rust, side by side in one run on
+//! x86-64, where both run on the same processor.
+
+use std::hint::black_box;
+use std::process::ExitCode;
+use std::time::{Duration, Instant};
+
+use m25p::{calls, Answer, Durations, Part, RECORD_BYTES};
+use rig::kit;
+use rig::plain_pins;
+use rig::probe::{Probe, SpiMode};
+use rig::rng::Rng;
+
+const READ_BYTES: usize = 60_000;
+const ROUNDS: usize = 15;
+const READS: usize = 2_000;
+const ERASES: usize = 4;
+const SAMPLES: usize = 10_000_000;
+
+/// The plain read: FF while the address is sent, then the array, rolling over.
+#[inline(never)]
+fn plain_read(array: &[u8], sent: &[u8], response: &mut [u8]) {
+    let address = (sent[1] as usize) << 16 | (sent[2] as usize) << 8 | sent[3] as usize;
+    let mut from = address % array.len();
+    let (silent, mut rest) = response[..sent.len()].split_at_mut(4);
+    silent.fill(0xFF);
+    while !rest.is_empty() {
+        let run = rest.len().min(array.len() - from);
+        rest[..run].copy_from_slice(&array[from..from + run]);
+        rest = &mut rest[run..];
+        from = 0;
+    }
+}
+
+/// The plain bulk erase.
+#[inline(never)]
+fn plain_erase(array: &mut [u8]) {
+    array.fill(0xFF);
+}
+
+/// A chip for the C calls and an array for plain Rust, both touched already.
+struct Both {
+    record: [u8; RECORD_BYTES],
+    array: Vec<u8>,
+    plain: Vec<u8>,
+    response: Vec<u8>,
+}
+
+impl Both {
+    fn new(part: Part) -> Both {
+        let (array, plain) = (vec![0; part.bytes()], vec![0xFF; part.bytes()]);
+        let (record, response) = ([0; RECORD_BYTES], vec![0; READ_BYTES + 4]);
+        let mut both = Both { record, array, plain, response };
+        let durations = Durations::from([1; 4]);
+        let reply = calls::deliver(&mut both.record, part.number(), &mut both.array, durations);
+        assert_eq!(reply.answer(), Answer::Executed);
+        both
+    }
+
+    fn transact(&mut self, sent: &[u8]) {
+        let Both { record, array, response, .. } = self;
+        let reply = calls::transact(record, array, sent, 0, 1, response);
+        assert_eq!(reply.answer(), Answer::Executed);
+    }
+
+    /// READ from addresses all over the array, one of them rolling over.
+    fn sent(&self, i: usize) -> Vec<u8> {
+        let address = (i * 1_234_567 + self.array.len() - 30_000) % self.array.len();
+        let mut sent = vec![0; READ_BYTES + 4];
+        sent[0] = 0x03;
+        sent[1..4].copy_from_slice(&(address as u32).to_be_bytes()[1..]);
+        sent
+    }
+}
+
+fn timed(mut work: impl FnMut()) -> Duration {
+    let start = Instant::now();
+    work();
+    start.elapsed()
+}
+
+/// The middle time of both, over rounds that take turns.
+fn middle(mut round: impl FnMut() -> (Duration, Duration)) -> (Duration, Duration) {
+    round();
+    let (mut first, mut second): (Vec<_>, Vec<_>) = (0..ROUNDS).map(|_| round()).unzip();
+    first.sort();
+    second.sort();
+    (first[ROUNDS / 2], second[ROUNDS / 2])
+}
+
+fn report(what: &str, times: usize, (calls, plain): (Duration, Duration)) {
+    let each = |time: Duration| time.as_secs_f64() * 1e6 / times as f64;
+    let ratio = calls.as_secs_f64() / plain.as_secs_f64();
+    println!("{what:<32} {:>10.2} us {:>10.2} us   {ratio:.2}", each(calls), each(plain));
+}
+
+fn time_reads(part: Part) {
+    let mut both = Both::new(part);
+    let sent: Vec<Vec<u8>> = (0..16).map(|i| both.sent(i)).collect();
+    let times = middle(|| {
+        let calls = timed(|| (0..READS).for_each(|i| both.transact(black_box(&sent[i % 16]))));
+        let Both { plain, response, .. } = &mut both;
+        let plain = timed(|| {
+            (0..READS)
+                .for_each(|i| plain_read(black_box(plain), black_box(&sent[i % 16]), response))
+        });
+        (calls, plain)
+    });
+    report(&format!("{part} read of 60,000 bytes"), READS, times);
+}
+
+fn time_erases(part: Part) {
+    let mut both = Both::new(part);
+    let times = middle(|| {
+        let calls = timed(|| {
+            for _ in 0..ERASES {
+                both.transact(&[0x06]);
+                both.transact(&[0xC7]);
+                calls::wait(&mut both.record, 1);
+            }
+        });
+        let plain = timed(|| (0..ERASES).for_each(|_| plain_erase(black_box(&mut both.plain))));
+        (calls, plain)
+    });
+    report(&format!("{part} bulk erase"), ERASES, times);
+}
+
+/// Ten million samples: reads of 4,096 bytes with a status read before each, then a page program and
+/// status reads while busy.
+fn samples(mode: SpiMode) -> Vec<u8> {
+    let mut rng = Rng::new(1);
+    let mut probe = Probe::new(mode, 1);
+    let mut program = rng.bytes(260);
+    program[0] = 0x02;
+    while probe.samples.len() < SAMPLES - 100_000 {
+        let mut read = rng.bytes(4 + 4_096);
+        read[0] = 0x03;
+        probe.transaction(&[0x05, 0], 0, true);
+        probe.transaction(&read, 0, true);
+    }
+    probe.transaction(&[0x06], 0, true);
+    probe.transaction(&program, 0, true);
+    while probe.samples.len() < SAMPLES {
+        probe.transaction(&[0x05, 0], 0, true);
+    }
+    probe.samples.truncate(SAMPLES);
+    probe.samples
+}
+
+fn time_pins(name: &str, mode: SpiMode) {
+    let mut both = Both::new(Part::M25p32);
+    both.array = Rng::new(2).bytes(both.array.len());
+    both.plain.clone_from(&both.array);
+    let start = both.record;
+    let samples = samples(mode);
+    let (mut output, mut plain_output) = (vec![9; SAMPLES], vec![8; SAMPLES]);
+    let Both { array, plain, .. } = &mut both;
+    let times = middle(|| {
+        let (mut record, mut plain_record) = (start, start);
+        let calls = timed(|| {
+            let reply = calls::pins(&mut record, array, black_box(&samples), &mut output);
+            assert_eq!(reply.answer(), Answer::Executed);
+        });
+        let plain = timed(|| {
+            let samples = black_box(&samples);
+            assert_eq!(plain_pins::run(&mut plain_record, plain, samples, &mut plain_output), 0);
+        });
+        assert_eq!(record, plain_record);
+        (calls, plain)
+    });
+    assert!(output == plain_output && both.array == both.plain, "the two do not do the same");
+    report(&format!("M25P32 {name} 10,000,000 samples"), 1, times);
+}
+
+fn main() -> ExitCode {
+    if !kit::NATIVE {
+        eprintln!("The timings need x86-64: elsewhere libm25p.a runs under an emulator.");
+        return ExitCode::FAILURE;
+    }
+    println!("middle of {ROUNDS} rounds; buffers written before, so no page is touched first");
+    println!("{:<32} {:>13} {:>13}   ratio", "", "C call", "plain Rust");
+    for part in [Part::M25p32, Part::M25p128] {
+        time_reads(part);
+        time_erases(part);
+    }
+    time_pins("mode 0", SpiMode::Zero);
+    time_pins("mode 3", SpiMode::Three);
+    ExitCode::SUCCESS
+}

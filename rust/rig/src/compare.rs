@@ -1,0 +1,288 @@
+//! The comparison: one call is made to libm25p.a and to the model, and every lent byte is compared.
+
+mod tally;
+
+pub use tally::Tally;
+
+use m25p::{calls, Buffer};
+
+use crate::model::{address, Model, Packed, Paper, Record, Transaction, BE, PARTS, RECORD_BYTES};
+use crate::pins_model::{Found, PinsModel};
+use crate::rng::Rng;
+
+/// Bytes behind each buffer that no call may touch, and that longer lengths reach into.
+pub const SPARE: usize = 16;
+
+/// How much of either end of a large array is compared at each call.
+const END: usize = 4_096;
+
+/// On large parts all of the array is compared once in this many calls.
+const INTERVAL: u64 = 1_000;
+
+/// A call of the library, with what it is sent.
+pub enum Call {
+    Deliver { part: u32, durations: [u32; 4] },
+    Transact { sent: Vec<u8>, pulses: u32, w: u32 },
+    Wait(u32),
+    PowerUp,
+    Pins { samples: Vec<u8> },
+}
+
+/// A buffer that a call fills: its bytes before the call, more than are lent, and the length that is named.
+pub struct Filled {
+    pub bytes: Vec<u8>,
+    pub len: usize,
+}
+
+/// A call with what it is lent: perhaps another record first, the lengths that are named, and the buffers
+/// that it fills.
+pub struct Step {
+    pub call: Call,
+    pub record: Option<Packed>,
+    pub record_len: usize,
+    pub array_len: usize,
+    pub filled: Vec<Filled>,
+}
+
+/// What the model answers: the 64 bits, and of raw pins what was found and the chip's number to each
+/// transaction carried out.
+pub struct Seen {
+    word: u64,
+    pub found: Vec<Found>,
+    pub chip: Vec<u8>,
+}
+
+impl Seen {
+    fn only(word: u64) -> Seen {
+        Seen { word, found: vec![], chip: vec![] }
+    }
+
+    pub fn answer(&self) -> u8 {
+        self.word as u8
+    }
+}
+
+/// The rules that the library is compared with.
+#[derive(Clone, Copy)]
+pub struct Rules {
+    pub chip: &'static dyn Model,
+    pub pins: &'static dyn PinsModel,
+}
+
+/// The paper's.
+pub const PAPER: Rules = Rules { chip: &Paper, pins: &Paper };
+
+/// The buffers of one side.
+#[derive(Clone)]
+pub struct Side {
+    pub record: Vec<u8>,
+    pub array: Buffer,
+    pub filled: Vec<Vec<u8>>,
+}
+
+impl Side {
+    /// Puts in place what the step brings.
+    pub fn prepare(&mut self, step: &Step) {
+        if let Some(record) = step.record {
+            self.record[..RECORD_BYTES].copy_from_slice(&record);
+        }
+        self.filled = step.filled.iter().map(|filled| filled.bytes.clone()).collect();
+    }
+
+    /// Record, array and the buffers to be filled, as long as the step names them.
+    pub fn lend(&mut self, step: &Step) -> (&mut [u8], &mut [u8], Vec<&mut [u8]>) {
+        let filled = self.filled.iter_mut().zip(&step.filled);
+        let filled = filled.map(|(bytes, named)| &mut bytes[..named.len]).collect();
+        (&mut self.record[..step.record_len], &mut self.array[..step.array_len], filled)
+    }
+
+    fn call(&mut self, step: &Step) -> u64 {
+        let (record, array, mut filled) = self.lend(step);
+        let reply = match &step.call {
+            Call::Deliver { part, durations } => {
+                calls::deliver(record, *part, array, (*durations).into())
+            }
+            Call::Transact { sent, pulses, w } => {
+                calls::transact(record, array, sent, *pulses, *w, filled[0])
+            }
+            Call::Wait(ticks) => calls::wait(record, *ticks),
+            Call::PowerUp => calls::power_up(record),
+            Call::Pins { samples } => calls::pins(record, array, samples, filled[0]),
+        };
+        reply.bits()
+    }
+
+    fn model_call(&mut self, step: &Step, rules: Rules) -> Seen {
+        let (record, array, mut filled) = self.lend(step);
+        let Rules { chip, pins } = rules;
+        match &step.call {
+            Call::Deliver { part, durations } => {
+                Seen::only(chip.deliver(record, *part, array, *durations).word())
+            }
+            Call::Transact { sent, pulses, w } => {
+                let t = Transaction { sent, pulses: *pulses, w: *w };
+                Seen::only(chip.transact(record, array, t, filled[0]).word())
+            }
+            Call::Wait(ticks) => Seen::only(chip.wait(record, *ticks).word()),
+            Call::PowerUp => Seen::only(chip.power_up(record).word()),
+            Call::Pins { samples } => {
+                let outcome = pins.run(record, array, samples, filled[0]);
+                Seen { word: outcome.answer.into(), found: outcome.found, chip: outcome.chip }
+            }
+        }
+    }
+}
+
+/// One chip on both sides.
+#[derive(Clone)]
+pub struct Pair {
+    part: usize,
+    rules: Rules,
+    pub real: Side,
+    pub modelled: Side,
+}
+
+impl Pair {
+    /// A chip of the part with random contents, and the given record.
+    pub fn new(start: Record, rules: Rules, rng: &mut Rng) -> Pair {
+        let part = start.part as usize;
+        let mut record = rng.bytes(RECORD_BYTES + SPARE);
+        record[..RECORD_BYTES].copy_from_slice(&start.pack());
+        let array = Buffer::from(rng.bytes(PARTS[part].bytes + SPARE));
+        let real = Side { record, array, filled: vec![] };
+        Pair { part, rules, modelled: real.clone(), real }
+    }
+
+    /// The record between two calls, which is sound and of this part.
+    pub fn record(&self) -> Record {
+        self.kept().expect("a sound record between two calls")
+    }
+
+    fn kept(&self) -> Option<Record> {
+        Record::unpack(&self.modelled.record[..RECORD_BYTES])
+    }
+
+    /// Makes the call on both sides: what the model saw, or the first difference in words.
+    pub fn step(&mut self, step: &Step, tally: &mut Tally) -> Result<Seen, String> {
+        let before = self.modelled.record.clone();
+        self.real.prepare(step);
+        self.modelled.prepare(step);
+        let word = self.real.call(step);
+        let seen = self.modelled.model_call(step, self.rules);
+        tally.count(step, &seen, &self.modelled.filled);
+        self.compare(step, word, &seen, tally.calls)
+            .map_err(|difference| format!("{difference}\nat {}", describe(step, &before)))?;
+        if self.kept().is_none_or(|record| record.part as usize != self.part) {
+            self.real.record.clone_from(&before);
+            self.modelled.record = before;
+        }
+        Ok(seen)
+    }
+
+    fn compare(&self, step: &Step, word: u64, seen: &Seen, calls: u64) -> Result<(), String> {
+        if word != seen.word {
+            return Err(format!("answer {word:#x}, expected {:#x}", seen.word));
+        }
+        same("record", 0, &self.real.record, &self.modelled.record)?;
+        for (real, modelled) in self.real.filled.iter().zip(&self.modelled.filled) {
+            same("filled", 0, real, modelled)?;
+        }
+        if self.part <= 1 || touches_all(&step.call, seen.answer()) || calls % INTERVAL == 0 {
+            return self.compare_array();
+        }
+        let part = &PARTS[self.part];
+        self.compare_window(0, END)?;
+        self.compare_window(part.bytes - END, part.bytes + SPARE)?;
+        match &step.call {
+            Call::Transact { sent, .. } if sent.len() >= 4 => {
+                let start = address(part, sent) / part.sector_bytes * part.sector_bytes;
+                self.compare_window(start, start + part.sector_bytes)
+            }
+            _ => Ok(()),
+        }
+    }
+
+    /// All of the array.
+    pub fn compare_array(&self) -> Result<(), String> {
+        self.compare_window(0, self.real.array.len())
+    }
+
+    fn compare_window(&self, start: usize, end: usize) -> Result<(), String> {
+        let (real, modelled) = (&self.real.array[start..end], &self.modelled.array[start..end]);
+        same("array", start, real, modelled)
+    }
+}
+
+/// Whether a call with this answer may have changed the array anywhere.
+fn touches_all(call: &Call, answer: u8) -> bool {
+    match call {
+        Call::Deliver { .. } => answer == 0,
+        Call::Transact { sent, .. } => answer == 0 && sent.first() == Some(&BE),
+        Call::Wait(_) | Call::PowerUp => false,
+        Call::Pins { .. } => true,
+    }
+}
+
+/// The first byte that differs, if any, in words.
+fn same(what: &str, start: usize, real: &[u8], expected: &[u8]) -> Result<(), String> {
+    if real == expected {
+        return Ok(());
+    }
+    let at = real.iter().zip(expected).position(|(a, b)| a != b).expect("equal lengths");
+    let (got, wanted) = (real[at], expected[at]);
+    Err(format!("{what} byte {}: {got:02X}, expected {wanted:02X}", start + at))
+}
+
+/// The first of the bytes in hex.
+fn hex(bytes: &[u8], most: usize) -> String {
+    let text: String = bytes.iter().take(most).map(|byte| format!("{byte:02X}")).collect();
+    text + if bytes.len() > most { "..." } else { "" }
+}
+
+fn describe(step: &Step, before: &[u8]) -> String {
+    let record = step.record.as_ref().map_or(&before[..RECORD_BYTES], |record| &record[..]);
+    let call = match &step.call {
+        Call::Deliver { part, durations } => format!("deliver part {part} {durations:?}"),
+        Call::Transact { sent, pulses, w } => {
+            format!("transact n {} {} pulses {pulses} w {w}", sent.len(), hex(sent, 40))
+        }
+        Call::Wait(ticks) => format!("wait {ticks}"),
+        Call::PowerUp => "power-up".to_string(),
+        Call::Pins { samples } => format!("{} samples {}", samples.len(), hex(samples, 2_000)),
+    };
+    let filled: Vec<usize> = step.filled.iter().map(|filled| filled.len).collect();
+    let (record, record_len, array_len) = (hex(record, 400), step.record_len, step.array_len);
+    format!(
+        "{call}, record {record}, record_len {record_len}, array_len {array_len}, filled {filled:?}"
+    )
+}
+
+/// Where calls come from.
+pub trait Source {
+    fn new(part: usize, seed: u64) -> Self;
+
+    /// A sound record of the part.
+    fn sound_record(&mut self) -> Record;
+
+    /// The next call for a chip whose record is `now`.
+    fn step(&mut self, now: &Record) -> Step;
+}
+
+/// An episode: a chip of the part from a random record on, and that many calls.
+pub fn episode<S: Source>(
+    part: usize,
+    calls: u64,
+    seed: u64,
+    rules: Rules,
+    tally: &mut Tally,
+) -> Result<(), String> {
+    let mut rng = Rng::new(seed);
+    let mut source = S::new(part, rng.draw());
+    let mut pair = Pair::new(source.sound_record(), rules, &mut rng);
+    let told = |e| format!("part {part}, episode seed {seed}: {e}");
+    for _ in 0..calls {
+        let step = source.step(&pair.record());
+        pair.step(&step, tally).map_err(told)?;
+    }
+    pair.compare_array().map_err(told)
+}

@@ -1,0 +1,333 @@
+//! Deliberate faults: readings of the paper that look right and are not, each in the place of one rule of the
+//! model. The comparison is made with each of them, to show that it would be seen.
+
+mod pins;
+mod walk;
+
+pub use pins::{LONG, SHORT};
+
+use crate::model::*;
+
+/// Pairs each fault with its name.
+macro_rules! named {
+    ($($fault:ident),* $(,)?) => { &[$((stringify!($fault), &$fault)),*] };
+}
+use named;
+
+/// The faults of the four calls.
+pub const CHIP: &[(&str, &dyn Model)] = named![
+    AndDataIntoSlots,
+    RunOnPage,
+    LatchLostWhenIgnored,
+    FrozenOnWLowAlone,
+    WLowStopsProgram,
+    BulkErasesUnprotectedOnly,
+    StoresOverOldBytes,
+    ReadStopsAtTheEnd,
+    AddressNotReduced,
+    ResponseBeyondN,
+    RefusalWritesResponse,
+    CountsEveryByte,
+    PulsesCutToAByte,
+    WCutToAByte,
+    BitFourKept,
+    DeepResetsLatch,
+    LastTickMissed,
+    LatchKeptAfterCycle,
+    ProtectionBeforeLatch,
+    BusyBeforeUnknown,
+    ZeroBytesUnchecked,
+    DurationBeforeLength,
+    PowerUpKeepsDeep,
+];
+
+/// Changes a packed record that is sound.
+fn amend(record: &mut [u8], change: impl FnOnce(&mut Record)) {
+    let mut r = Record::unpack(record).expect("a sound record");
+    change(&mut r);
+    record.copy_from_slice(&r.pack());
+}
+
+/// All data of one program are anded into their slots.
+struct AndDataIntoSlots;
+
+impl Model for AndDataIntoSlots {
+    fn slot(&self, before: u8, byte: u8) -> u8 {
+        before & byte
+    }
+}
+
+/// A program runs on into the next page.
+struct RunOnPage;
+
+impl Model for RunOnPage {
+    fn program(&self, array: &mut [u8], address: usize, data: &[u8]) {
+        for (k, byte) in data.iter().enumerate() {
+            array[(address + k) % array.len()] &= byte;
+        }
+    }
+}
+
+/// An ignored instruction resets the latch.
+struct LatchLostWhenIgnored;
+
+impl Model for LatchLostWhenIgnored {
+    fn transact(
+        &self,
+        record: &mut [u8],
+        array: &mut [u8],
+        t: Transaction,
+        response: &mut [u8],
+    ) -> Outcome {
+        let outcome = Paper.transact(record, array, t, response);
+        if outcome.answer > 8 {
+            amend(record, |r| r.latch = false);
+        }
+        outcome
+    }
+}
+
+/// W low alone freezes the status register.
+struct FrozenOnWLowAlone;
+
+impl Model for FrozenOnWLowAlone {
+    fn frozen(&self, _: &Record, w: u32) -> bool {
+        w == 0
+    }
+}
+
+/// W low stops a program.
+struct WLowStopsProgram;
+
+impl Model for WLowStopsProgram {
+    fn protected(&self, r: &Record, t: Transaction) -> bool {
+        Paper.protected(r, t) || t.sent[0] == PP && t.w == 0
+    }
+}
+
+/// Bulk erase goes through with BP above 0, over the unprotected sectors.
+struct BulkErasesUnprotectedOnly;
+
+impl Model for BulkErasesUnprotectedOnly {
+    fn protected(&self, r: &Record, t: Transaction) -> bool {
+        t.sent[0] != BE && Paper.protected(r, t)
+    }
+
+    fn bulk_erase(&self, r: &Record, array: &mut [u8]) {
+        let part = r.figures();
+        let spared = part.protected[r.bp as usize] * part.sector_bytes;
+        array[..part.bytes - spared].fill(0xFF);
+    }
+}
+
+/// A program stores its bytes over the old ones.
+struct StoresOverOldBytes;
+
+impl Model for StoresOverOldBytes {
+    fn programmed(&self, _: u8, slot: u8) -> u8 {
+        slot
+    }
+}
+
+/// A read does not roll over; it drives FF behind the last byte.
+struct ReadStopsAtTheEnd;
+
+impl Model for ReadStopsAtTheEnd {
+    fn read(&self, array: &[u8], at: usize) -> u8 {
+        array.get(at).copied().unwrap_or(0xFF)
+    }
+}
+
+/// Protection is found from the address before it is reduced.
+struct AddressNotReduced;
+
+impl Model for AddressNotReduced {
+    fn protected(&self, r: &Record, t: Transaction) -> bool {
+        match t.sent[0] {
+            PP | SE => in_protected_sector(r, full_address(t.sent)),
+            _ => Paper.protected(r, t),
+        }
+    }
+}
+
+/// The response is filled with FF behind n, too.
+struct ResponseBeyondN;
+
+impl Model for ResponseBeyondN {
+    fn transact(
+        &self,
+        record: &mut [u8],
+        array: &mut [u8],
+        t: Transaction,
+        response: &mut [u8],
+    ) -> Outcome {
+        let outcome = Paper.transact(record, array, t, response);
+        if outcome.answer == 0 || outcome.answer > 8 {
+            response[t.sent.len()..].fill(0xFF);
+        }
+        outcome
+    }
+}
+
+/// A refusal of the host side fills the response with FF.
+struct RefusalWritesResponse;
+
+impl Model for RefusalWritesResponse {
+    fn transact(
+        &self,
+        record: &mut [u8],
+        array: &mut [u8],
+        t: Transaction,
+        response: &mut [u8],
+    ) -> Outcome {
+        let outcome = Paper.transact(record, array, t, response);
+        if (1..=8).contains(&outcome.answer) {
+            response.fill(0xFF);
+        }
+        outcome
+    }
+}
+
+/// All n bytes of a response are counted as driven.
+struct CountsEveryByte;
+
+impl Model for CountsEveryByte {
+    fn drive(&self, r: &Record, array: &[u8], sent: &[u8], response: &mut [u8]) -> Outcome {
+        let mut outcome = Paper.drive(r, array, sent, response);
+        if outcome.count > 0 {
+            outcome.count = sent.len();
+        }
+        outcome
+    }
+}
+
+/// Further pulses are cut down to 8 bits.
+struct PulsesCutToAByte;
+
+impl Model for PulsesCutToAByte {
+    fn transact(
+        &self,
+        record: &mut [u8],
+        array: &mut [u8],
+        t: Transaction,
+        response: &mut [u8],
+    ) -> Outcome {
+        Paper.transact(record, array, Transaction { pulses: t.pulses & 0xFF, ..t }, response)
+    }
+}
+
+/// W is cut down to 8 bits.
+struct WCutToAByte;
+
+impl Model for WCutToAByte {
+    fn frozen(&self, r: &Record, w: u32) -> bool {
+        Paper.frozen(r, w & 0xFF)
+    }
+}
+
+/// WRSR keeps bit 4 on parts whose highest BP is 3.
+struct BitFourKept;
+
+impl Model for BitFourKept {
+    fn bp(&self, _: &Part, status: u8) -> u8 {
+        status >> 2 & 7
+    }
+}
+
+/// Deep power-down resets the latch.
+struct DeepResetsLatch;
+
+impl Model for DeepResetsLatch {
+    fn change(&self, r: &mut Record, array: &mut [u8], sent: &[u8]) {
+        Paper.change(r, array, sent);
+        r.latch = r.latch && sent[0] != DP;
+    }
+}
+
+/// Waiting just the ticks left does not end the cycle.
+struct LastTickMissed;
+
+impl Model for LastTickMissed {
+    fn wait(&self, record: &mut [u8], ticks: u32) -> Outcome {
+        match Paper.unpack(record) {
+            Ok(r) if r.mode == Mode::Busy(ticks) => Outcome::only(0),
+            _ => Paper.wait(record, ticks),
+        }
+    }
+}
+
+/// The latch outlives the cycle.
+struct LatchKeptAfterCycle;
+
+impl Model for LatchKeptAfterCycle {
+    fn wait(&self, record: &mut [u8], ticks: u32) -> Outcome {
+        let latch = Paper.unpack(record).is_ok_and(|r| r.latch);
+        let outcome = Paper.wait(record, ticks);
+        if outcome.answer == 0 {
+            amend(record, |r| r.latch = latch);
+        }
+        outcome
+    }
+}
+
+/// Protection is looked at before the latch.
+struct ProtectionBeforeLatch;
+
+impl Model for ProtectionBeforeLatch {
+    fn chip_numbers(&self) -> [u8; 8] {
+        [11, 14, 12, 13, 15, 17, 16, 18]
+    }
+}
+
+/// Busy is looked at before unknown codes.
+struct BusyBeforeUnknown;
+
+impl Model for BusyBeforeUnknown {
+    fn chip_numbers(&self) -> [u8; 8] {
+        [11, 12, 14, 13, 15, 16, 17, 18]
+    }
+}
+
+/// The three zero bytes of a packed record are not looked at.
+struct ZeroBytesUnchecked;
+
+impl Model for ZeroBytesUnchecked {
+    fn unpack(&self, record: &[u8]) -> Result<Record, u8> {
+        let mut bytes = record.to_vec();
+        bytes.iter_mut().skip(5).take(3).for_each(|byte| *byte = 0);
+        Paper.unpack(&bytes)
+    }
+}
+
+/// Delivery looks at the durations before the array's length.
+struct DurationBeforeLength;
+
+impl Model for DurationBeforeLength {
+    fn deliver(
+        &self,
+        record: &mut [u8],
+        part: u32,
+        array: &mut [u8],
+        durations: [u32; 4],
+    ) -> Outcome {
+        let outcome = Paper.deliver(record, part, array, durations);
+        if outcome.answer == 2 && !durations.into_iter().all(is_duration) {
+            return Outcome::only(7);
+        }
+        outcome
+    }
+}
+
+/// Power-up leaves a deep power-down record in that mode.
+struct PowerUpKeepsDeep;
+
+impl Model for PowerUpKeepsDeep {
+    fn power_up(&self, record: &mut [u8]) -> Outcome {
+        let deep = Paper.unpack(record).is_ok_and(|r| r.mode == Mode::Deep);
+        let outcome = Paper.power_up(record);
+        if deep {
+            amend(record, |r| r.mode = Mode::Deep);
+        }
+        outcome
+    }
+}

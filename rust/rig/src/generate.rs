@@ -1,0 +1,265 @@
+//! Random calls, guided by the record so that every state and every answer comes up often.
+
+use crate::compare::{Call, Filled, Source, Step, SPARE};
+use crate::model::*;
+use crate::rng::Rng;
+
+pub struct Generator {
+    rng: Rng,
+    part: usize,
+    /// An address used a while ago: programs, erases and reads meet there.
+    spot: usize,
+}
+
+/// Numbers that look like small ones when they are cut down.
+const WIDE: [u32; 9] = [8, 255, 256, 257, 0x1_0000, 0x1_0001, 0x8000_0000, u32::MAX - 1, u32::MAX];
+
+impl Source for Generator {
+    fn new(part: usize, seed: u64) -> Generator {
+        Generator { rng: Rng::new(seed), part, spot: 0 }
+    }
+
+    fn sound_record(&mut self) -> Record {
+        self.record_of(self.part)
+    }
+
+    /// One call in eight is odd: several of its lengths and numbers may be wrong at once.
+    fn step(&mut self, now: &Record) -> Step {
+        let odd = self.rng.one_in(8);
+        let size = PARTS[self.part].bytes;
+        let (call, filled) = self.call(now, odd);
+        let mut step =
+            Step { call, record: None, record_len: RECORD_BYTES, array_len: size, filled };
+        if self.rng.one_in(40) {
+            step.record = Some(self.sound_record().pack());
+        }
+        if odd && self.rng.one_in(3) {
+            step.record = Some(self.damaged(now));
+        }
+        if odd && self.rng.one_in(6) {
+            let lengths = [0, 1, RECORD_BYTES - 1, RECORD_BYTES + 1, RECORD_BYTES + SPARE];
+            step.record_len = self.rng.pick(&lengths);
+        }
+        if odd && self.rng.one_in(3) {
+            step.array_len = self.rng.pick(&[0, 256, 4_096, size - 1, size + 1, size + SPARE]);
+        }
+        step
+    }
+}
+
+impl Generator {
+    /// A call, and the buffers that it fills.
+    fn call(&mut self, now: &Record, odd: bool) -> (Call, Vec<Filled>) {
+        let wait = match now.mode {
+            Mode::Busy(_) => 2,
+            _ => 20,
+        };
+        if self.rng.one_in(wait) {
+            return (Call::Wait(self.ticks(now)), vec![]);
+        }
+        if self.rng.one_in(60) {
+            return (Call::PowerUp, vec![]);
+        }
+        if self.rng.one_in(60) {
+            return (self.delivery(odd), vec![]);
+        }
+        self.transaction(now, odd)
+    }
+
+    fn ticks(&mut self, now: &Record) -> u32 {
+        let left = match now.mode {
+            Mode::Busy(left) => left,
+            _ => 1,
+        };
+        let random = self.rng.draw() as u32;
+        self.rng.pick(&[0, 1, 2, left - 1, left, left, left + 1, left / 2, u32::MAX, random])
+    }
+
+    /// A delivery; on the large parts it is mostly one that gets refused, as filling takes its time.
+    fn delivery(&mut self, odd: bool) -> Call {
+        let mut durations = [0; 4].map(|_| self.duration());
+        if odd || self.part >= 3 && !self.rng.one_in(20) {
+            let wrong = [0, 1_000_001, 0x8000_0001, u32::MAX, self.rng.draw() as u32];
+            durations[self.rng.below(4)] = self.rng.pick(&wrong);
+        }
+        let mut part = self.part as u32;
+        if odd && self.rng.one_in(2) {
+            part = self.rng.pick(&[0, 1, 2, 3, 4, 5, 6, 255, 256, 0x1_0000, u32::MAX]);
+        }
+        Call::Deliver { part, durations }
+    }
+
+    fn duration(&mut self) -> u32 {
+        let random = 1 + self.rng.below(1_000_000) as u32;
+        self.rng.pick(&[1, 1, 2, 3, 5, 9, 255, 256, 65_536, 1_000_000, random])
+    }
+
+    fn transaction(&mut self, now: &Record, odd: bool) -> (Call, Vec<Filled>) {
+        let code = self.code(now);
+        let mut sent = self.sent(code, now);
+        if odd && self.rng.one_in(20) {
+            let n = self.rng.pick(&[65_535, 65_536, 65_537, 65_537, 65_538, 70_000]);
+            sent = self.stretched(sent, n);
+        }
+        let n = sent.len();
+        let behind = self.rng.below(40);
+        let mut response_len = n + self.rng.pick(&[0, 0, 1, behind]);
+        if odd && self.rng.one_in(3) {
+            response_len = self.rng.pick(&[0, n / 2, n.saturating_sub(1)]);
+        }
+        let bytes = self.rng.bytes(response_len + SPARE);
+        let call = Call::Transact { sent, pulses: self.pulses(odd), w: self.w() };
+        (call, vec![Filled { bytes, len: response_len }])
+    }
+
+    fn pulses(&mut self, odd: bool) -> u32 {
+        if odd && self.rng.one_in(3) {
+            return self.rng.pick(&WIDE);
+        }
+        match self.rng.below(10) {
+            0 => self.rng.below(8) as u32,
+            _ => 0,
+        }
+    }
+
+    fn w(&mut self) -> u32 {
+        match self.rng.below(8) {
+            0..=2 => 0,
+            3..=5 => 1,
+            6 => self.rng.pick(&WIDE),
+            _ => self.rng.draw() as u32,
+        }
+    }
+
+    /// A first byte that has something to do in this state, mostly.
+    fn code(&mut self, now: &Record) -> u8 {
+        let likely = match now.mode {
+            Mode::Busy(_) => RDSR,
+            Mode::Deep => RES,
+            Mode::Standby if now.latch => {
+                self.rng.pick(&[WRSR, WRSR, PP, PP, PP, PP, PP, SE, BE, READ, FAST_READ])
+            }
+            Mode::Standby => self.rng.pick(&[WREN, WREN, WREN, READ, FAST_READ, RDID, DP]),
+        };
+        let code = match self.rng.below(30) {
+            0 => self.rng.byte(),
+            1 => 0x9E,
+            2..=10 => self.rng.pick(&CODES),
+            _ => likely,
+        };
+        if code == BE && self.part >= 3 && !self.rng.one_in(10) {
+            return PP;
+        }
+        code
+    }
+
+    /// The bytes of a transaction: mostly of a length that the instruction needs.
+    fn sent(&mut self, code: u8, now: &Record) -> Vec<u8> {
+        let some = match self.rng.below(100) {
+            0 => self.rng.below(65_532),
+            1..=20 => self.rng.below(700),
+            _ => self.rng.below(12),
+        };
+        let mut n = match code {
+            WREN | WRDI | BE | DP => 1,
+            WRSR => 2,
+            SE => 4,
+            PP | FAST_READ => 5 + some,
+            READ => 4 + some,
+            _ => 1 + some.min(2_000),
+        };
+        match self.rng.below(24) {
+            0 => n += 1,
+            1 => n -= 1,
+            2 => n = self.rng.below(8),
+            _ => {}
+        }
+        let address = self.address(now);
+        let mut sent = vec![code, (address >> 16) as u8, (address >> 8) as u8, address as u8];
+        if code == WRSR {
+            sent[1] = self.rng.byte();
+        }
+        self.stretched(std::mem::take(&mut sent), n)
+    }
+
+    /// The same beginning, cut or filled up to n bytes.
+    fn stretched(&mut self, mut sent: Vec<u8>, n: usize) -> Vec<u8> {
+        let begun = sent.len().min(n);
+        sent.resize(n, 0);
+        self.rng.fill(&mut sent[begun..]);
+        sent
+    }
+
+    /// A 24-bit address: at an end, at a sector or protection boundary, near the spot, or anywhere; now
+    /// and then with bits above the part's size.
+    fn address(&mut self, now: &Record) -> usize {
+        let part = &PARTS[self.part];
+        let near = self.rng.below(5);
+        let open = part.sectors - part.protected[now.bp as usize];
+        let sector = self.rng.pick(&[self.part, open, part.sectors / 2]);
+        let base = match self.rng.below(10) {
+            0 => near,
+            1 => part.bytes - 1 - near,
+            2 => part.bytes - 1 - self.rng.below(300),
+            3 | 4 => part.bytes + sector * part.sector_bytes + near - 2,
+            5 => self.rng.below(1 << 24),
+            _ => part.bytes + self.spot + self.rng.below(600) - 300,
+        };
+        let base = base % part.bytes;
+        if self.rng.one_in(20) {
+            self.spot = base;
+        }
+        let above = match self.rng.below(4) {
+            0 => self.rng.below((1 << 24) / part.bytes) * part.bytes,
+            _ => 0,
+        };
+        base + above
+    }
+
+    /// A sound record of the part.
+    fn record_of(&mut self, part: usize) -> Record {
+        let deep = if part == 4 { Mode::Standby } else { Mode::Deep };
+        let busy = Mode::Busy(self.duration());
+        let mode = self.rng.pick(&[Mode::Standby, Mode::Standby, Mode::Standby, busy, deep]);
+        let highest = PARTS[part].highest_bp as usize;
+        let bp = self.rng.below(highest + 1) as u8;
+        Record {
+            part: part as u8,
+            bp: self.rng.pick(&[0, bp]),
+            srwd: self.rng.one_in(3),
+            latch: matches!(mode, Mode::Busy(_)) || self.rng.one_in(2),
+            mode,
+            program: self.duration(),
+            sector_erase: self.duration(),
+            bulk_erase: self.duration(),
+            write_status: self.duration(),
+        }
+    }
+
+    /// A packed record that is mostly not sound, or one of another part.
+    fn damaged(&mut self, now: &Record) -> Packed {
+        let mut bytes = now.pack();
+        let at = self.rng.below(RECORD_BYTES);
+        let wrong = [0, 1, 0x8000_0000, 1_000_000, 1_000_001, 0x0100_0001, u32::MAX];
+        match self.rng.below(8) {
+            0 => return self.sound_record_of_any().pack(),
+            1 => self.rng.fill(&mut bytes),
+            2 => bytes[at] ^= 1 << self.rng.below(8),
+            3 => bytes[at] = self.rng.byte(),
+            4 => bytes[self.rng.below(8)] = self.rng.pick(&[0, 1, 2, 3, 4, 5, 7, 8, 255]),
+            5 => {
+                let field = 8 + 4 * self.rng.below(5);
+                let number = self.rng.pick(&wrong);
+                bytes[field..field + 4].copy_from_slice(&number.to_le_bytes());
+            }
+            6 => bytes = Record { mode: Mode::Busy(1), latch: false, ..*now }.pack(),
+            _ => bytes = Record { mode: Mode::Deep, ..*now }.pack(),
+        }
+        bytes
+    }
+
+    fn sound_record_of_any(&mut self) -> Record {
+        let part = self.rng.below(5);
+        self.record_of(part)
+    }
+}

@@ -1,0 +1,24 @@
+//! The rig: a model of the written rules, and what compares libm25p.a with it.
+//!
+//! `rust/run` compares; RIG_CALLS, RIG_RUNS and RIG_SEED make the run longer or another one.
+//! `cargo run --release --bin timing` measures.
+
+pub mod bench_model;
+pub mod compare;
+pub mod faults;
+pub mod generate;
+// C programs of the tests are built as the bridge of m25p is.
+#[path = "../../m25p/src/kit.rs"]
+pub mod kit;
+pub mod model;
+pub mod pins_generate;
+pub mod pins_model;
+pub mod plain_pins;
+pub mod probe;
+pub mod rng;
+
+/// Writes a line past the tests' capture, so that it is always seen.
+pub fn tell(text: &str) {
+    use std::io::Write;
+    let _ = writeln!(std::io::stderr(), "{text}");
+}

@@ -1,0 +1,363 @@
+//! A model of the written rules: the four calls, rule by rule in the paper's order, plain and slow.
+//!
+//! Each rule is a method, so that a test can put a wrong reading in the place of one of them.
+
+mod part;
+mod record;
+
+pub use part::{Part, PARTS};
+pub use record::{is_duration, Mode, Packed, Record, RECORD_BYTES};
+
+pub const WREN: u8 = 0x06;
+pub const WRDI: u8 = 0x04;
+pub const RDID: u8 = 0x9F;
+pub const RDSR: u8 = 0x05;
+pub const WRSR: u8 = 0x01;
+pub const READ: u8 = 0x03;
+pub const FAST_READ: u8 = 0x0B;
+pub const PP: u8 = 0x02;
+pub const SE: u8 = 0xD8;
+pub const BE: u8 = 0xC7;
+pub const DP: u8 = 0xB9;
+pub const RES: u8 = 0xAB;
+
+/// The twelve instruction codes.
+pub const CODES: [u8; 12] = [WREN, WRDI, RDID, RDSR, WRSR, READ, FAST_READ, PP, SE, BE, DP, RES];
+
+/// What is sent: the whole bytes, the further pulses, and W (low for 0, else high).
+#[derive(Clone, Copy)]
+pub struct Transaction<'a> {
+    pub sent: &'a [u8],
+    pub pulses: u32,
+    pub w: u32,
+}
+
+/// The three numbers of an answer.
+#[derive(Clone, Copy, Debug, PartialEq, Eq)]
+pub struct Outcome {
+    pub answer: u8,
+    pub first: usize,
+    pub count: usize,
+}
+
+impl Outcome {
+    pub fn only(answer: u8) -> Outcome {
+        Outcome { answer, first: 0, count: 0 }
+    }
+
+    /// The answer as a C call carries it.
+    pub fn word(&self) -> u64 {
+        self.answer as u64 | (self.first as u64) << 8 | (self.count as u64) << 16
+    }
+}
+
+/// The rules.
+pub trait Model: Sync {
+    fn deliver(
+        &self,
+        record: &mut [u8],
+        part: u32,
+        array: &mut [u8],
+        durations: [u32; 4],
+    ) -> Outcome {
+        if record.len() != RECORD_BYTES {
+            return Outcome::only(8);
+        }
+        if part > 4 {
+            return Outcome::only(1);
+        }
+        if array.len() != PARTS[part as usize].bytes {
+            return Outcome::only(2);
+        }
+        if !durations.into_iter().all(is_duration) {
+            return Outcome::only(7);
+        }
+        array.fill(0xFF);
+        let delivered = Record {
+            part: part as u8,
+            bp: 0,
+            srwd: false,
+            latch: false,
+            mode: Mode::Standby,
+            program: durations[0],
+            sector_erase: durations[1],
+            bulk_erase: durations[2],
+            write_status: durations[3],
+        };
+        record.copy_from_slice(&delivered.pack());
+        Outcome::only(0)
+    }
+
+    fn transact(
+        &self,
+        record: &mut [u8],
+        array: &mut [u8],
+        t: Transaction,
+        response: &mut [u8],
+    ) -> Outcome {
+        let mut r = match self.accept(record, array, t, response) {
+            Ok(r) => r,
+            Err(number) => return Outcome::only(number),
+        };
+        let ignored = self.ignored(&r, t);
+        if ignored != 0 {
+            response[..t.sent.len()].fill(0xFF);
+            return Outcome::only(ignored);
+        }
+        let outcome = self.drive(&r, array, t.sent, response);
+        self.change(&mut r, array, t.sent);
+        record.copy_from_slice(&r.pack());
+        outcome
+    }
+
+    fn wait(&self, record: &mut [u8], ticks: u32) -> Outcome {
+        let mut r = match self.unpack(record) {
+            Ok(r) => r,
+            Err(number) => return Outcome::only(number),
+        };
+        if let Mode::Busy(left) = r.mode {
+            if ticks < left {
+                r.mode = Mode::Busy(left - ticks);
+            } else {
+                r.mode = Mode::Standby;
+                r.latch = false;
+            }
+        }
+        record.copy_from_slice(&r.pack());
+        Outcome::only(0)
+    }
+
+    fn power_up(&self, record: &mut [u8]) -> Outcome {
+        let mut r = match self.unpack(record) {
+            Ok(r) => r,
+            Err(number) => return Outcome::only(number),
+        };
+        r.mode = Mode::Standby;
+        r.latch = false;
+        record.copy_from_slice(&r.pack());
+        Outcome::only(0)
+    }
+
+    /// The record, or 8 or 6.
+    fn unpack(&self, record: &[u8]) -> Result<Record, u8> {
+        if record.len() != RECORD_BYTES {
+            return Err(8);
+        }
+        Record::unpack(record).ok_or(6)
+    }
+
+    /// The record, or the host side's number: 8, 6, then 2, 3, 4, 5.
+    fn accept(
+        &self,
+        record: &[u8],
+        array: &[u8],
+        t: Transaction,
+        response: &[u8],
+    ) -> Result<Record, u8> {
+        let r = self.unpack(record)?;
+        if array.len() != r.figures().bytes {
+            return Err(2);
+        }
+        if t.sent.len() > 65_536 {
+            return Err(3);
+        }
+        if t.pulses > 7 {
+            return Err(4);
+        }
+        if response.len() < t.sent.len() {
+            return Err(5);
+        }
+        Ok(r)
+    }
+
+    /// The chip's number, the first that applies; 0 where it executes.
+    fn ignored(&self, r: &Record, t: Transaction) -> u8 {
+        let applies = |number: &u8| self.applies(*number, r, t);
+        self.chip_numbers().into_iter().find(applies).unwrap_or(0)
+    }
+
+    /// The chip's numbers, in their order.
+    fn chip_numbers(&self) -> [u8; 8] {
+        [11, 14, 12, 13, 15, 16, 17, 18]
+    }
+
+    /// When each applies, given that none before it does.
+    fn applies(&self, number: u8, r: &Record, t: Transaction) -> bool {
+        let n = t.sent.len();
+        if n == 0 {
+            return number == 11;
+        }
+        let code = t.sent[0];
+        match number {
+            14 => !known(r.figures(), code),
+            12 => matches!(r.mode, Mode::Busy(_)) && code != RDSR,
+            13 => r.mode == Mode::Deep && code != RES,
+            15 => !as_needed(code, n, t.pulses),
+            16 => matches!(code, WRSR | PP | SE | BE) && !r.latch,
+            17 => self.protected(r, t),
+            18 => code == WRSR && self.frozen(r, t.w),
+            _ => false,
+        }
+    }
+
+    /// PP or SE in a protected sector; BE with BP above 0.
+    fn protected(&self, r: &Record, t: Transaction) -> bool {
+        match t.sent[0] {
+            PP | SE => in_protected_sector(r, address(r.figures(), t.sent)),
+            BE => r.bp > 0,
+            _ => false,
+        }
+    }
+
+    /// SRWD set and W low.
+    fn frozen(&self, r: &Record, w: u32) -> bool {
+        r.srwd && w == 0
+    }
+
+    /// Writes the first n response bytes of an executed transaction.
+    fn drive(&self, r: &Record, array: &[u8], sent: &[u8], response: &mut [u8]) -> Outcome {
+        let mut outcome = Outcome::only(0);
+        for (i, line) in response[..sent.len()].iter_mut().enumerate() {
+            *line = 0xFF;
+            if let Some(byte) = self.driven(r, array, sent, i) {
+                *line = byte;
+                if outcome.count == 0 {
+                    outcome.first = i;
+                }
+                outcome.count += 1;
+            }
+        }
+        outcome
+    }
+
+    /// What the chip drives during byte i.
+    fn driven(&self, r: &Record, array: &[u8], sent: &[u8], i: usize) -> Option<u8> {
+        let part = r.figures();
+        match sent[0] {
+            RDID if (1..4).contains(&i) => Some(part.identification[i - 1]),
+            RDID if i >= 4 => Some(0x00),
+            RDSR if i >= 1 => Some(r.status()),
+            READ if i >= 4 => Some(self.read(array, address(part, sent) + i - 4)),
+            FAST_READ if i >= 5 => Some(self.read(array, address(part, sent) + i - 5)),
+            RES if i >= 4 => part.signature,
+            _ => None,
+        }
+    }
+
+    /// The array, rolling over from its last byte to 0.
+    fn read(&self, array: &[u8], at: usize) -> u8 {
+        array[at % array.len()]
+    }
+
+    /// What the chip drives during the last of these bytes; that byte itself does not matter.
+    fn drives_last(&self, r: &Record, array: &[u8], sent: &[u8]) -> Option<u8> {
+        if self.ignored(r, Transaction { sent, pulses: 0, w: 1 }) != 0 {
+            return None;
+        }
+        self.driven(r, array, sent, sent.len() - 1)
+    }
+
+    /// What an executed transaction does to record and array.
+    fn change(&self, r: &mut Record, array: &mut [u8], sent: &[u8]) {
+        let part = r.figures();
+        match sent[0] {
+            WREN => r.latch = true,
+            WRDI => r.latch = false,
+            WRSR => {
+                r.srwd = sent[1] & 0x80 != 0;
+                r.bp = self.bp(part, sent[1]);
+                r.mode = Mode::Busy(r.write_status);
+            }
+            PP => {
+                self.program(array, address(part, sent), &sent[4..]);
+                r.mode = Mode::Busy(r.program);
+            }
+            SE => {
+                let start = address(part, sent) / part.sector_bytes * part.sector_bytes;
+                array[start..start + part.sector_bytes].fill(0xFF);
+                r.mode = Mode::Busy(r.sector_erase);
+            }
+            BE => {
+                self.bulk_erase(r, array);
+                r.mode = Mode::Busy(r.bulk_erase);
+            }
+            DP => r.mode = Mode::Deep,
+            RES => r.mode = Mode::Standby,
+            _ => {}
+        }
+    }
+
+    /// BP in a status byte: bits 4 to 2, or bits 3 and 2 where the highest BP is 3.
+    fn bp(&self, part: &Part, status: u8) -> u8 {
+        status >> 2 & if part.highest_bp == 3 { 3 } else { 7 }
+    }
+
+    fn bulk_erase(&self, _: &Record, array: &mut [u8]) {
+        array.fill(0xFF);
+    }
+
+    /// Data into the latch of 256 slots, then the latch onto the addressed page.
+    fn program(&self, array: &mut [u8], address: usize, data: &[u8]) {
+        let mut latch = [0xFF; 256];
+        for (k, byte) in data.iter().enumerate() {
+            let slot = &mut latch[(address + k) % 256];
+            *slot = self.slot(*slot, *byte);
+        }
+        let page = address / 256 * 256;
+        for (byte, slot) in array[page..page + 256].iter_mut().zip(latch) {
+            *byte = self.programmed(*byte, slot);
+        }
+    }
+
+    /// A slot after a further byte: the later one replaces the earlier.
+    fn slot(&self, _before: u8, byte: u8) -> u8 {
+        byte
+    }
+
+    /// A byte of the page after the program: itself and its slot, bit by bit.
+    fn programmed(&self, before: u8, slot: u8) -> u8 {
+        before & slot
+    }
+}
+
+/// The rules as the paper has them.
+pub struct Paper;
+
+impl Model for Paper {}
+
+/// Whether the address lies in a protected sector.
+pub fn in_protected_sector(r: &Record, address: usize) -> bool {
+    let part = r.figures();
+    address / part.sector_bytes >= part.sectors - part.protected[r.bp as usize]
+}
+
+/// Whether the code is an instruction of the part.
+fn known(part: &Part, code: u8) -> bool {
+    match code {
+        DP | RES => part.signature.is_some(),
+        _ => CODES.contains(&code),
+    }
+}
+
+/// Whether n and the further pulses are as the instruction needs.
+fn as_needed(code: u8, n: usize, pulses: u32) -> bool {
+    match code {
+        WREN | WRDI | BE | DP => n == 1 && pulses == 0,
+        WRSR => n == 2 && pulses == 0,
+        SE => n == 4 && pulses == 0,
+        PP => n >= 5 && pulses == 0,
+        READ => n >= 4,
+        FAST_READ => n >= 5,
+        _ => n >= 1,
+    }
+}
+
+/// Bytes 1 to 3, high byte first.
+pub fn full_address(sent: &[u8]) -> usize {
+    (sent[1] as usize) << 16 | (sent[2] as usize) << 8 | sent[3] as usize
+}
+
+/// The address, modulo the part's size.
+pub fn address(part: &Part, sent: &[u8]) -> usize {
+    full_address(sent) % part.bytes
+}

@@ -1,0 +1,202 @@
+//! C and C++ programs over m25p.h and libm25p.a, built with warnings as errors, and what they print.
+
+use std::path::{Path, PathBuf};
+use std::process::{Command, Output};
+
+use rig::kit;
+
+/// A file of the repository.
+fn file(name: &str) -> PathBuf {
+    Path::new(env!("CARGO_MANIFEST_DIR")).join("../..").join(name)
+}
+
+/// Builds the program and compares what it prints, or tells why this machine can't.
+fn prints(standard: &str, source: &str, expected: &str) {
+    let program = Path::new(env!("CARGO_TARGET_TMPDIR")).join(source.replace(['/', '.'], "_"));
+    let path = file(source);
+    if let Some(missing) = kit::missing(&path) {
+        rig::tell(&format!("skipped: {source} is not built. {missing}"));
+        return;
+    }
+    let flags = [standard, "-O2", "-Wall", "-Wextra", "-Wpedantic", "-Werror"];
+    let built = kit::build(&path, &flags, Path::new(env!("M25P_ARCHIVE")), &program);
+    built.unwrap_or_else(|why| panic!("{source} does not build. {why}"));
+    let run = kit::command(&program).unwrap().output().unwrap();
+    let text = String::from_utf8(run.stdout).unwrap();
+    assert!(run.status.success(), "{source}: {}, having printed\n{text}", run.status);
+    assert_eq!(text, expected);
+}
+
+const FIRST: &str = "\
+identification   00 00 0C
+write enable     done
+program          done
+status           03
+status           00
+read             66 6C 61 73 68 FF
+";
+
+#[test]
+fn first_program() {
+    prints("-std=c99", "examples/first.c", FIRST);
+}
+
+/// Runs a command to its end, if it is on the machine.
+fn run(name: &str, words: &[&str]) -> Option<Output> {
+    Command::new(name).args(words).output().ok()
+}
+
+/// The commands of docs/C-CALLS.md for any processor: a static program of the distribution's compiler for
+/// x86-64, run by itself on that processor and by qemu-user elsewhere.
+#[test]
+fn static_program() {
+    const COMPILER: &str = "x86_64-linux-gnu-gcc";
+    let skipped = |what: &str| rig::tell(&format!("skipped: the static program needs {what}"));
+    let directory = Path::new(env!("CARGO_TARGET_TMPDIR"));
+    let (empty, program) = (directory.join("empty.c"), directory.join("static_first"));
+    std::fs::write(&empty, "int main(void) { return 0; }\n").unwrap();
+    let (program, include) = (program.to_str().unwrap(), file("include"));
+    let tried = run(COMPILER, &["-static", empty.to_str().unwrap(), "-o", program]);
+    if !tried.is_some_and(|tried| tried.status.success()) {
+        return skipped(&format!("{COMPILER} and a static C library for it"));
+    }
+    let (source, archive) = (file("examples/first.c"), Path::new(env!("M25P_ARCHIVE")));
+    let words = ["-O2", "-static", "-I", include.to_str().unwrap(), source.to_str().unwrap()];
+    let words = [&words[..], &[archive.to_str().unwrap(), "-o", program]].concat();
+    let built = run(COMPILER, &words).unwrap();
+    assert!(built.status.success(), "{}", String::from_utf8_lossy(&built.stderr));
+    let ended = if kit::NATIVE { run(program, &[]) } else { run("qemu-x86_64", &[program]) };
+    let Some(ended) = ended else { return skipped("qemu-x86_64 (qemu-user)") };
+    assert_eq!((ended.status.success(), &ended.stdout[..]), (true, FIRST.as_bytes()));
+}
+
+/// No promise fixes the order of a call's arguments; this program and the names below do.
+#[test]
+fn order_of_arguments() {
+    let expected = "\
+m25p_deliver: right, 22 of 22 exchanges noticed
+m25p_transact: right, 21 of 21 exchanges noticed
+m25p_wait: right, 1 of 1 exchanges noticed
+m25p_power_up: right, 0 of 0 exchanges noticed
+m25p_pins: right, 12 of 12 exchanges noticed
+";
+    prints("-std=c99", "rust/rig/c/arguments.c", expected);
+}
+
+/// What stands between a call's brackets behind `before` and its name, parted by commas.
+fn between<'a>(text: &'a str, before: &str, call: &str) -> Vec<&'a str> {
+    let found = text.split(before).find_map(|rest| rest.trim_start().strip_prefix(call));
+    let found = found.and_then(|rest| rest.trim_start().strip_prefix('('));
+    let (inside, _) = found.and_then(|rest| rest.split_once(')')).expect(call);
+    inside.split(',').map(str::trim).filter(|word| !word.is_empty()).collect()
+}
+
+/// The names of a C declaration's arguments.
+fn declared(page: &str, call: &str) -> Vec<String> {
+    let text = std::fs::read_to_string(file(page)).unwrap();
+    let name = |word: &&str| word.rsplit([' ', '*']).next().unwrap().to_string();
+    between(&text, "uint64_t ", call).iter().map(name).collect()
+}
+
+/// The names of a call of the library, a slice as C has it: a pointer and its length.
+fn proved(call: &str) -> Vec<String> {
+    let text = std::fs::read_to_string(file("crates/m25p/src/lib.rt")).unwrap();
+    let arguments = between(&text, "pub extern \"C\" fn ", call);
+    let names = arguments.iter().flat_map(|argument| {
+        let (name, kind) = argument.split_once(':').expect("a name and its type");
+        let name = name.replace("packed", "record");
+        if kind.contains("[u8]") {
+            vec![name.clone(), format!("{name}_len")]
+        } else {
+            vec![name]
+        }
+    });
+    names.collect()
+}
+
+/// The calls, and how many arguments each has.
+const CALLS: [(&str, usize); 5] = [
+    ("m25p_deliver", 9),
+    ("m25p_transact", 10),
+    ("m25p_wait", 3),
+    ("m25p_power_up", 2),
+    ("m25p_pins", 8),
+];
+
+/// The header, its page and the library name the same arguments in the same order.
+#[test]
+fn names_of_arguments() {
+    for (call, count) in CALLS {
+        let header = declared("include/m25p.h", call);
+        assert_eq!(header.len(), count, "{call}");
+        assert_eq!(header, declared("docs/C-CALLS.md", call), "{call}");
+        assert_eq!(header, proved(call), "{call}");
+    }
+}
+
+#[test]
+fn header_in_cpp() {
+    prints("-std=c++11", "rust/rig/c/header.cpp", "");
+}
+
+const EMPTY: &str = "\
+deliver record: 8 0 0
+deliver array: 2 0 0
+deliver both: 8 0 0
+wait record: 8 0 0
+power-up record: 8 0 0
+transact record: 8 0 0
+transact array: 2 0 0
+transact sent: 11 0 0
+transact response: 5 0 0
+transact sent and response: 11 0 0
+transact all: 8 0 0
+pins record: 8 0 0
+pins array: 2 0 0
+pins samples: 0 0 0
+pins output: 23 0 0
+pins samples and output: 0 0 0
+pins all: 8 0 0
+";
+
+const LIMITS: &str = "\
+lengths beyond 32 bits
+deliver record: 8 0 0
+deliver array: 2 0 0
+wait record: 8 0 0
+power-up record: 8 0 0
+transact record: 8 0 0
+transact array: 2 0 0
+transact sent: 3 0 0
+transact response: 0 1 3
+FF 00 00 0C
+pins record: 8 0 0
+pins array: 2 0 0
+pins output: 0 0 0
+2 2 2
+full numbers
+part 256: 1 0 0
+part 65536: 1 0 0
+program 1000001: 7 0 0
+write status 2^32-1: 7 0 0
+pulses 256: 4 0 0
+pulses 2^31: 4 0 0
+W 0: 18 0 0
+W 256: 0 0 0
+wait 2^32-1: 0 0 0
+longest transactions
+read 65536: 0 4 65532
+read 65537: 3 0 0
+short response: 5 0 0
+program 65536: 0 0 0
+raw pins
+rest: 0 0 0
+bit 7: 21 0 0
+short output: 23 0 0
+";
+
+#[test]
+fn limits() {
+    let expected = format!("empty slices, an address\n{EMPTY}{LIMITS}empty slices, NULL\n{EMPTY}");
+    prints("-std=c99", "rust/rig/c/boundary.c", &expected);
+}

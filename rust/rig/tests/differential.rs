@@ -1,0 +1,65 @@
+//! libm25p.a against the model, over all five parts. RIG_CALLS and RIG_SEED make it longer or another.
+
+use m25p::Answer;
+use rig::compare::{episode, Rules, Tally, PAPER};
+use rig::faults;
+use rig::generate::Generator;
+use rig::model::CODES;
+use rig::rng::Rng;
+use rig::tell;
+
+const DEFAULT_CALLS: u64 = 1_000_000;
+const DEFAULT_SEED: u64 = 1;
+
+/// Calls of one episode, by part: filling and comparing the large arrays takes its time.
+const EPISODE: [u64; 5] = [500, 1_000, 2_000, 5_000, 25_000];
+
+fn number(name: &str, default: u64) -> u64 {
+    match std::env::var(name) {
+        Ok(text) => text.parse().unwrap_or_else(|_| panic!("{name} is a decimal number")),
+        Err(_) => default,
+    }
+}
+
+#[test]
+fn calls_equal_model() {
+    let calls = number("RIG_CALLS", DEFAULT_CALLS);
+    let seed = number("RIG_SEED", DEFAULT_SEED);
+    tell(&format!("differential: seed {seed}, at least {calls} calls"));
+    let mut seeds = Rng::new(seed);
+    let mut tally = Tally::default();
+    for (part, length) in EPISODE.into_iter().enumerate() {
+        let end = calls * (part as u64 + 1) / 5;
+        while tally.calls < end {
+            let seed = seeds.draw();
+            if let Err(difference) = episode::<Generator>(part, length, seed, PAPER, &mut tally) {
+                panic!("{difference}");
+            }
+        }
+    }
+    tell(&format!("differential: {}", tally.show()));
+    // 21 and above are answers of raw pins, which a test of their own compares.
+    for answer in Answer::ALL.into_iter().filter(|answer| (*answer as u8) < 21) {
+        let times = tally.answers[answer as usize];
+        assert!(times >= 20, "answer {} came {times} times only", answer as u8);
+    }
+    for code in CODES {
+        let times = tally.executed[code as usize];
+        assert!(times >= 20, "instruction {code:02X} was executed {times} times only");
+    }
+}
+
+/// With a fault in the model the same comparison finds a difference, each time.
+#[test]
+fn faults_are_seen() {
+    for (name, fault) in faults::CHIP {
+        let rules = Rules { chip: *fault, ..PAPER };
+        let mut seeds = Rng::new(DEFAULT_SEED);
+        let mut tally = Tally::default();
+        let seen = (0..40).any(|i| {
+            let part = i % 3;
+            episode::<Generator>(part, EPISODE[part], seeds.draw(), rules, &mut tally).is_err()
+        });
+        assert!(seen, "{name} was not seen in {} calls", tally.calls);
+    }
+}

@@ -1,0 +1,193 @@
+//! The model on the worked cases K1 to K15, and the bench model on the worked example.
+
+use rig::bench_model::{self, Line};
+use rig::model::{Mode, Model, Outcome, Packed, Paper, Record, Transaction};
+
+/// The chip of the worked cases: bench part, standby, BP 0, SRWD 0, latch set, array FF.
+struct Case {
+    record: Packed,
+    array: Vec<u8>,
+    response: Vec<u8>,
+}
+
+fn worked() -> Record {
+    Record { latch: true, ..Record::standby(0) }
+}
+
+fn case(record: Record) -> Case {
+    let array = vec![0xFF; record.figures().bytes];
+    Case { record: record.pack(), array, response: Vec::new() }
+}
+
+impl Case {
+    fn run(&mut self, sent: &[u8], pulses: u32, w: u32) -> Outcome {
+        self.response = vec![0; sent.len()];
+        let t = Transaction { sent, pulses, w };
+        Paper.transact(&mut self.record, &mut self.array, t, &mut self.response)
+    }
+
+    fn answer(&mut self, sent: &[u8]) -> u8 {
+        self.run(sent, 0, 1).answer
+    }
+
+    fn wait(&mut self, ticks: u32) {
+        assert_eq!(Paper.wait(&mut self.record, ticks).answer, 0);
+    }
+
+    fn status(&mut self) -> u8 {
+        let outcome = self.run(&[0x05, 0x00], 0, 1);
+        assert_eq!((outcome.answer, outcome.first, outcome.count), (0, 1, 1));
+        self.response[1]
+    }
+
+    fn now(&self) -> Record {
+        Record::unpack(&self.record).unwrap()
+    }
+}
+
+#[test]
+fn k1_no_bytes() {
+    assert_eq!(case(worked()).answer(&[]), 11);
+}
+
+#[test]
+fn k2_write_enable() {
+    let start = Record { latch: false, ..worked() };
+    let mut chip = case(start);
+    assert_eq!(chip.run(&[0x06], 1, 1).answer, 15);
+    assert_eq!(chip.now(), start);
+    assert_eq!(chip.answer(&[0x06]), 0);
+    assert!(chip.now().latch);
+}
+
+#[test]
+fn k3_latch_needed() {
+    let mut chip = case(Record { latch: false, ..worked() });
+    assert_eq!(chip.answer(&[0x02, 0x00, 0x00, 0x10, 0x00]), 16);
+}
+
+#[test]
+fn k4_program_clears_bits() {
+    let mut chip = case(worked());
+    chip.array[7] = 0xF0;
+    assert_eq!(chip.answer(&[0x02, 0, 0, 7, 0xAA]), 0);
+    assert_eq!(chip.array[7], 0xA0);
+}
+
+#[test]
+fn k5_last_byte_wins() {
+    let mut chip = case(worked());
+    let mut sent = vec![0x02, 0, 0, 0, 0x11];
+    sent.extend([0xFF; 255]);
+    sent.push(0x22);
+    assert_eq!(chip.answer(&sent), 0);
+    assert_eq!(chip.array[0], 0x22);
+    assert!(chip.array[1..].iter().all(|byte| *byte == 0xFF));
+}
+
+#[test]
+fn k6_read_rolls_over() {
+    let mut chip = case(worked());
+    (chip.array[4_095], chip.array[0]) = (0x12, 0x34);
+    let outcome = chip.run(&[0x03, 0x00, 0x0F, 0xFF, 0, 0], 0, 1);
+    assert_eq!(outcome, Outcome { answer: 0, first: 4, count: 2 });
+    assert_eq!(chip.response, [0xFF, 0xFF, 0xFF, 0xFF, 0x12, 0x34]);
+}
+
+#[test]
+fn k7_protected_program() {
+    let start = Record { bp: 1, ..worked() };
+    assert_eq!(case(start).answer(&[0x02, 0x00, 0x0B, 0xFF, 0x00]), 0);
+    assert_eq!(case(start).answer(&[0x02, 0x00, 0x0C, 0x00, 0x00]), 17);
+}
+
+#[test]
+fn k8_protected_bulk_erase() {
+    assert_eq!(case(Record { bp: 1, ..worked() }).answer(&[0xC7]), 17);
+}
+
+#[test]
+fn k9_frozen_status() {
+    let start = Record { srwd: true, ..worked() };
+    assert_eq!(case(start).run(&[0x01, 0x00], 0, 0).answer, 18);
+    assert_eq!(case(start).run(&[0x01, 0x00], 0, 1).answer, 0);
+}
+
+#[test]
+fn k10_status_write() {
+    let mut chip = case(worked());
+    assert_eq!(chip.answer(&[0x01, 0xFF]), 0);
+    assert_eq!(chip.status(), 0x8F);
+    chip.wait(2);
+    assert_eq!(chip.status(), 0x8C);
+}
+
+#[test]
+fn k11_wrong_form() {
+    assert_eq!(case(worked()).answer(&[0x02, 0, 0, 0]), 15);
+    assert_eq!(case(worked()).answer(&[0xD8, 0, 0, 0, 0]), 15);
+}
+
+#[test]
+fn k12_busy_and_latch_fall_together() {
+    let mut chip = case(worked());
+    assert_eq!(chip.answer(&[0x02, 0, 0, 0, 0]), 0);
+    chip.wait(2);
+    assert_eq!(chip.status(), 0x03);
+    chip.wait(1);
+    assert_eq!(chip.status(), 0x00);
+}
+
+#[test]
+fn k13_deep_power_down() {
+    let mut chip = case(Record { mode: Mode::Deep, ..worked() });
+    assert_eq!(chip.answer(&[0x05, 0x00]), 13);
+    assert_eq!(chip.answer(&[0xAB]), 0);
+    assert_eq!(chip.now().mode, Mode::Standby);
+}
+
+#[test]
+fn k14_no_signature() {
+    assert_eq!(case(Record { part: 4, ..worked() }).answer(&[0xAB]), 14);
+}
+
+#[test]
+fn k15_latch_before_protection() {
+    let mut chip = case(Record { latch: false, bp: 3, ..worked() });
+    assert_eq!(chip.answer(&[0xD8, 0, 0, 0]), 16);
+}
+
+#[test]
+fn bench_example() {
+    let input = include_bytes!("../../../examples/first.txt");
+    let output =
+        "n ans q\n1 0 FF00000C\n2 0 FF\n3 0 FFFFFFFFFFFF\n4 0 FF03\n5 12 FFFFFFFF\n6 0 -\n\
+                  7 0 FFFFFFFFFF5AFFFF\n8 0 FFFFFFFFF0\nend 8\n";
+    assert_eq!(bench_model::output(input), output);
+}
+
+#[test]
+fn bench_lines() {
+    let parse = |line: &str| bench_model::parse(line.as_bytes());
+    let sent = vec![0x0B, 0xAB];
+    assert_eq!(parse("x 0 7 0bAb"), Some(Line::Transaction { w: 0, pulses: 7, sent }));
+    let none = Line::Transaction { w: 1, pulses: 0, sent: vec![] };
+    assert_eq!(parse("x 1 0"), Some(none));
+    assert_eq!(parse("w 0004294967295"), Some(Line::Wait(u32::MAX)));
+    assert_eq!(parse("p"), Some(Line::PowerUp));
+    for line in
+        ["", " ", "x 1 0 ", "x 1 0 0", "x 2 0 06", "x 1 8 06", "x  1 0 06", "X 1 0 06", "p "]
+    {
+        assert_eq!(parse(line), None, "{line}");
+    }
+    for line in ["w", "w ", "w 4294967296", "w +1", "w -1", "x 1 0 06\r", "x 01 0 06", "w 1\0"] {
+        assert_eq!(parse(line), None, "{line}");
+    }
+    let longest = format!("x 1 0 {}", "00".repeat(297));
+    assert_eq!(longest.len(), bench_model::MOST_CHARACTERS);
+    assert!(parse(&longest).is_some());
+    assert_eq!(parse(&format!("w {}1", "0".repeat(598))), None);
+    assert_eq!(parse(&format!("w {}1", "0".repeat(597))), Some(Line::Wait(1)));
+    assert_eq!(bench_model::output(b""), "n ans q\nend 0\n");
+    assert_eq!(bench_model::output(b"\np"), "n ans q\n1 90 -\n2 0 -\nend 2\n");
+}

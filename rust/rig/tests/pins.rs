@@ -1,0 +1,168 @@
+//! m25p_pins against the model, over all five parts. RIG_RUNS and RIG_SEED make it longer or another.
+
+use m25p::calls;
+use rig::compare::{episode, Call, Pair, Rules, Seen, Source, Step, Tally, PAPER};
+use rig::faults;
+use rig::model::{Packed, RECORD_BYTES};
+use rig::pins_generate::PinsGenerator;
+use rig::pins_model::End;
+use rig::plain_pins;
+use rig::rng::Rng;
+use rig::tell;
+use tools::pins::Ends;
+
+const DEFAULT_RUNS: u64 = 20_000;
+const DEFAULT_SEED: u64 = 1;
+
+/// Runs of one episode, by part.
+const EPISODE: [u64; 5] = [50, 50, 50, 20, 20];
+
+/// How many of a hundred runs go to each part: comparing the large arrays takes its time.
+const SHARE: [u64; 5] = [60, 25, 12, 2, 1];
+
+fn number(name: &str, default: u64) -> u64 {
+    match std::env::var(name) {
+        Ok(text) => text.parse().unwrap_or_else(|_| panic!("{name} is a decimal number")),
+        Err(_) => default,
+    }
+}
+
+#[test]
+fn runs_equal_model() {
+    let runs = number("RIG_RUNS", DEFAULT_RUNS);
+    let seed = number("RIG_SEED", DEFAULT_SEED);
+    tell(&format!("pins: seed {seed}, at least {runs} runs"));
+    let mut seeds = Rng::new(seed);
+    let mut tally = Tally::default();
+    let mut end = 0;
+    for (part, length) in EPISODE.into_iter().enumerate() {
+        end += runs * SHARE[part] / 100;
+        while tally.calls < end {
+            let seed = seeds.draw();
+            episode::<PinsGenerator>(part, length, seed, PAPER, &mut tally)
+                .unwrap_or_else(|difference| panic!("{difference}"));
+        }
+    }
+    tell(&format!("pins: {}", tally.show()));
+    for answer in [0, 2, 6, 8, 21, 23] {
+        assert!(tally.answers[answer] >= 20, "answer {answer} came too seldom");
+    }
+    for answer in [0, 11, 12, 13, 14, 15, 16, 17, 18] {
+        assert!(tally.pins.chip[answer] >= 20, "the chip's number {answer} came too seldom");
+    }
+    let ends = [tally.pins.carried_out, tally.pins.thrown_away, tally.pins.unfinished];
+    assert!(ends.into_iter().all(|times| times >= 20), "an end came too seldom");
+}
+
+/// With a fault in the model the same comparison finds a difference, each time.
+#[test]
+fn faults_are_seen() {
+    for (name, fault) in faults::SHORT {
+        let rules = Rules { pins: *fault, ..PAPER };
+        let mut seeds = Rng::new(DEFAULT_SEED);
+        let mut tally = Tally::default();
+        let mut differs = |seed| episode::<PinsGenerator>(0, 50, seed, rules, &mut tally).is_err();
+        let seen = (0..60).any(|_| differs(seeds.draw()));
+        assert!(seen, "{name} was not seen in {} runs", tally.calls);
+    }
+}
+
+/// A run on a chip: the packed record that it starts from, the step, its samples, and what the model saw.
+struct Run<'a> {
+    start: Packed,
+    step: &'a Step,
+    samples: &'a [u8],
+    seen: Seen,
+}
+
+/// Random runs on chips of the first three parts; each is looked at with the chip from before it and from
+/// behind it.
+fn each_run(count: u64, mut look: impl FnMut(&Pair, &Pair, Run)) {
+    let seed = number("RIG_SEED", DEFAULT_SEED);
+    let mut seeds = Rng::new(seed);
+    for part in 0..3 {
+        let mut generator = PinsGenerator::new(part, seeds.draw());
+        let mut rng = Rng::new(seeds.draw());
+        let mut pair = Pair::new(generator.sound_record(), PAPER, &mut rng);
+        for _ in 0..count {
+            let step = generator.step(&pair.record());
+            let Call::Pins { samples } = &step.call else { panic!("a run") };
+            let start = step.record.unwrap_or(pair.record().pack());
+            let before = pair.clone();
+            let seen = pair.step(&step, &mut Tally::default()).unwrap();
+            look(&before, &pair, Run { start, step: &step, samples, seen });
+        }
+    }
+}
+
+/// Record and array after a run are those of the transactions found, given singly to m25p_transact.
+#[test]
+fn equals_single_transactions() {
+    each_run(500, |before, after, run| {
+        if run.seen.answer() != 0 {
+            return;
+        }
+        let (mut record, mut array) = (run.start, before.real.array.clone());
+        for found in run.seen.found {
+            let End::Risen { w } = found.end else { continue };
+            let (sent, w) = (found.sent(), u32::from(w));
+            let mut response = vec![0; sent.len()];
+            let array = &mut array[..run.step.array_len];
+            calls::transact(&mut record, array, &sent, found.pulses(), w, &mut response);
+        }
+        assert_eq!(array, after.real.array);
+        assert_eq!(record, after.real.record[..RECORD_BYTES]);
+    });
+}
+
+/// The output of a run cut short is the beginning of the whole run's.
+#[test]
+fn no_output_depends_on_a_later_sample() {
+    let mut rng = Rng::new(DEFAULT_SEED);
+    each_run(300, |before, after, run| {
+        if run.seen.answer() != 0 {
+            return;
+        }
+        for _ in 0..3 {
+            let cut = rng.below(run.samples.len() + 1);
+            let mut output = vec![9; cut];
+            let mut array = before.real.array[..run.step.array_len].to_vec();
+            let samples = &run.samples[..cut];
+            let reply = calls::pins(&mut run.start.clone(), &mut array, samples, &mut output);
+            assert_eq!(reply.bits(), 0);
+            assert_eq!(output, after.real.filled[0][..cut]);
+        }
+    });
+}
+
+/// The plain program of the timing does the same work.
+#[test]
+fn plain_program_equals_model() {
+    each_run(1_000, |before, after, run| {
+        let mut plain = before.real.clone();
+        plain.prepare(run.step);
+        let (record, array, mut filled) = plain.lend(run.step);
+        let answer = plain_pins::run(record, array, run.samples, filled[0]);
+        assert_eq!(answer, run.seen.answer());
+        assert_eq!(plain.filled, after.modelled.filled);
+        assert_eq!(plain.array, after.modelled.array);
+        if answer == 0 && plain.record[0] == after.record().part {
+            assert_eq!(plain.record, after.modelled.record);
+        }
+    });
+}
+
+/// The command `pins` counts the transactions, by how they end, as the model does.
+#[test]
+fn command_counts_as_the_model() {
+    each_run(1_000, |_, _, run| {
+        if run.seen.answer() != 0 {
+            return;
+        }
+        let count = |ended: fn(End) -> bool| run.seen.found.iter().filter(|f| ended(f.end)).count();
+        let ended = count(|end| matches!(end, End::Risen { .. }));
+        let thrown_away = count(|end| end == End::ThrownAway);
+        let unfinished = count(|end| end == End::Unfinished);
+        assert_eq!(Ends::of(run.samples), Ends { ended, thrown_away, unfinished });
+    });
+}

@@ -1,0 +1,87 @@
+//! libm25p.a against the model on whole ranges: every first byte in every state, and every length.
+
+use rig::compare::{Call, Filled, Pair, Step, Tally, PAPER, SPARE};
+use rig::model::{Mode, Record, CODES, PARTS, RECORD_BYTES};
+use rig::rng::Rng;
+
+/// Records of the part that differ in what the chip looks at.
+fn states(part: u8) -> Vec<Record> {
+    let standby = Record { latch: true, ..Record::standby(part) };
+    let highest = PARTS[part as usize].highest_bp;
+    let mut states = vec![
+        standby,
+        Record { latch: false, ..standby },
+        Record { bp: 1, srwd: true, ..standby },
+        Record { bp: highest, srwd: true, latch: false, ..standby },
+        Record { mode: Mode::Busy(1), ..standby },
+        Record { mode: Mode::Busy(1_000_000), bp: highest, srwd: true, ..standby },
+    ];
+    if part != 4 {
+        states.push(Record { mode: Mode::Deep, ..standby });
+        states.push(Record { mode: Mode::Deep, latch: false, srwd: true, ..standby });
+    }
+    states
+}
+
+/// A chip of the part, and the steps made on it.
+struct Sweep {
+    pair: Pair,
+    rng: Rng,
+    tally: Tally,
+}
+
+impl Sweep {
+    fn new(part: u8) -> Sweep {
+        let mut rng = Rng::new(part as u64);
+        let pair = Pair::new(states(part)[0], PAPER, &mut rng);
+        Sweep { pair, rng, tally: Tally::default() }
+    }
+
+    /// A transaction of n bytes, random but for the first, from the given record.
+    fn transact(&mut self, from: Record, code: u8, n: usize, pulses: u32, w: u32) {
+        let mut sent = self.rng.bytes(n);
+        if n > 0 {
+            sent[0] = code;
+        }
+        let filled = vec![Filled { bytes: self.rng.bytes(n + SPARE), len: n }];
+        let call = Call::Transact { sent, pulses, w };
+        let (record_len, array_len) = (RECORD_BYTES, PARTS[from.part as usize].bytes);
+        let step = Step { call, record: Some(from.pack()), record_len, array_len, filled };
+        if let Err(difference) = self.pair.step(&step, &mut self.tally) {
+            panic!("{difference}");
+        }
+    }
+}
+
+#[test]
+fn every_first_byte_in_every_state() {
+    for part in 0..5 {
+        let mut sweep = Sweep::new(part);
+        for from in states(part) {
+            for code in 0..=255 {
+                for n in 0..=6 {
+                    for pulses in [0, 1, 7, 8] {
+                        sweep.transact(from, code, n, pulses, 0);
+                        sweep.transact(from, code, n, pulses, 1);
+                    }
+                }
+            }
+        }
+        sweep.pair.compare_array().unwrap();
+    }
+}
+
+#[test]
+fn every_length() {
+    for part in 0..5 {
+        let mut sweep = Sweep::new(part);
+        let standby = states(part)[0];
+        let no_bulk_erase = Record { bp: 1, ..standby };
+        for n in (0..=530).chain(65_530..=65_538) {
+            for code in CODES {
+                sweep.transact(no_bulk_erase, code, n, 0, 1);
+            }
+        }
+        sweep.pair.compare_array().unwrap();
+    }
+}

@@ -1,0 +1,101 @@
+//! All that flashrom asks of the server, asked of the model. Where flashrom is not on the machine, the test says so.
+
+#[path = "../../tools/tests/support/common.rs"]
+#[allow(dead_code)]
+mod common;
+#[path = "../../tools/tests/support/flashrom.rs"]
+#[allow(dead_code)]
+mod flashrom;
+
+use std::io::{self, Write};
+use std::sync::atomic::{AtomicBool, Ordering};
+use std::sync::{Arc, Mutex};
+use std::thread;
+
+use common::scratch;
+use flashrom::{find, tell, Flashrom};
+use m25p::{Part, RECORD_BYTES};
+use rig::model::{Model, Paper, Transaction, PARTS};
+use rig::rng::Rng;
+use tools::serprog::{Options, Server};
+
+/// What the server writes down.
+#[derive(Clone, Default)]
+struct Trace(Arc<Mutex<Vec<u8>>>);
+
+impl Write for Trace {
+    fn write(&mut self, bytes: &[u8]) -> io::Result<usize> {
+        self.0.lock().unwrap().write(bytes)
+    }
+
+    fn flush(&mut self) -> io::Result<()> {
+        Ok(())
+    }
+}
+
+/// The trace of a probe and a write, from one image to another; none without flashrom.
+fn traced(old: &[u8], new: &[u8]) -> Option<String> {
+    let program = find("trace")?;
+    let directory = scratch("flashrom_trace");
+    let image = directory.join("chip.bin");
+    std::fs::write(&image, old).unwrap();
+    let options = Options { image: Some(image.clone()), ..Options::of(Part::M25p10a) };
+    let mut server = Server::start(&options).unwrap();
+    let trace = Trace::default();
+    server.trace(Box::new(trace.clone()));
+    let flashrom = Flashrom { program, directory, port: server.address().unwrap().port() };
+    let stop = AtomicBool::new(false);
+    let ended = thread::scope(|scope| {
+        let served = scope.spawn(|| server.run(&stop, |sentence| panic!("{sentence}")));
+        let probed = flashrom.run(&[], None);
+        let written = flashrom.write("M25P10-A", new);
+        stop.store(true, Ordering::Relaxed);
+        [probed, written, (served.join().unwrap().is_ok(), "the server".to_string())]
+    });
+    ended.into_iter().for_each(|(fine, said)| assert!(fine, "{said}"));
+    assert!(std::fs::read(&image).unwrap() == new, "the image");
+    let trace = trace.0.lock().unwrap().clone();
+    Some(String::from_utf8(trace).unwrap())
+}
+
+/// Carries a line of the trace out on the model: what should stand behind the `=`.
+fn model_answer(record: &mut [u8], array: &mut [u8], line: &str) -> String {
+    let fields: Vec<&str> = line.split(' ').collect();
+    let hex: String;
+    let answer = match fields[..] {
+        ["w", ticks] => {
+            hex = "-".to_string();
+            Paper.wait(record, ticks.parse().unwrap()).answer
+        }
+        ["x", w, "0", pairs] => {
+            let pair = |at| u8::from_str_radix(&pairs[at..at + 2], 16).unwrap();
+            let sent: Vec<u8> = (0..pairs.len()).step_by(2).map(pair).collect();
+            let mut response = vec![0; sent.len()];
+            let t = Transaction { sent: &sent, pulses: 0, w: w.parse().unwrap() };
+            let outcome = Paper.transact(record, array, t, &mut response);
+            hex = response.iter().map(|byte| format!("{byte:02X}")).collect();
+            outcome.answer
+        }
+        _ => panic!("a line of the trace: {line}"),
+    };
+    format!("{answer} {hex}")
+}
+
+/// All that flashrom asks for in a probe and a write, asked of the model: the same answers.
+#[test]
+fn trace_equals_model() {
+    let bytes = PARTS[1].bytes;
+    let (old, new) = (Rng::new(10).bytes(bytes), Rng::new(11).bytes(bytes));
+    let Some(printed) = traced(&old, &new) else { return };
+    let (mut record, mut array) = ([0; RECORD_BYTES], old.clone());
+    Paper.deliver(&mut record, 1, &mut array, [2, 1_000, 10_000, 5]);
+    array.copy_from_slice(&old);
+    for line in printed.lines() {
+        let (asked, answered) = line.split_once(" = ").expect("a line of the trace");
+        assert_eq!(model_answer(&mut record, &mut array, asked), answered, "{asked}");
+    }
+    assert!(array == new);
+    let transactions = printed.lines().filter(|line| line.starts_with('x')).count();
+    assert!(transactions > 3 * bytes / 256, "only {transactions} transactions");
+    tell(&format!("trace: {transactions} transactions, the same answers from the model"));
+}

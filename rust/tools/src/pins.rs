@@ -1,0 +1,65 @@
+//! The command `pins`: a probe's file is carried out on a part as delivered.
+
+mod ends;
+mod options;
+
+pub use ends::Ends;
+pub use options::{Options, USAGE};
+
+use std::ffi::OsString;
+use std::path::{Path, PathBuf};
+
+use m25p::pins::NOT_DRIVEN;
+use m25p::{Answer, Chip, Part};
+
+use crate::replace::write_result;
+use crate::vcd::{self, Undriven};
+
+/// Carries out what the words ask for and writes the results: a report, or a sentence that says why not.
+pub fn carry_out(words: impl IntoIterator<Item = OsString>) -> Result<String, String> {
+    let options = Options::parse(words)?;
+    let unread = |e| format!("{} cannot be read: {e}.", options.file.display());
+    let samples = std::fs::read(&options.file).map_err(unread)?;
+    let mut chip = Chip::deliver(options.part, options.durations)
+        .map_err(|answer| refusal("The delivery", answer))?;
+    let output =
+        chip.pins(&samples).map_err(|answer| run_refusal(&options.file, &samples, answer))?;
+    let undriven = if options.pulled_up { Undriven::PulledUp } else { Undriven::Floating };
+    write(&options.output, || output.clone())?;
+    write(&options.vcd, || vcd::text(&samples, &output, undriven).into_bytes())?;
+    Ok(report(options.part, &samples, &output))
+}
+
+fn refusal(what: &str, answer: Answer) -> String {
+    format!("{what} is refused with {}: {answer}.", answer.number())
+}
+
+/// The refusal of a run; 21 is told with the first sample that is none.
+fn run_refusal(file: &Path, samples: &[u8], answer: Answer) -> String {
+    let file = file.display();
+    match samples.iter().position(|sample| sample >> 5 != 0) {
+        Some(at) if answer == Answer::SampleBits => format!(
+            "{file} is refused with 21: sample {at}, counted from 0, has one of the bits 5 to 7 set."
+        ),
+        _ => refusal(&file.to_string(), answer),
+    }
+}
+
+fn write(path: &Option<PathBuf>, bytes: impl FnOnce() -> Vec<u8>) -> Result<(), String> {
+    let Some(path) = path else { return Ok(()) };
+    let shown = path.display();
+    write_result(path, &bytes()).map_err(|e| format!("{shown} cannot be written: {e}."))
+}
+
+/// The run in three lines.
+fn report(part: Part, samples: &[u8], output: &[u8]) -> String {
+    let Ends { ended, thrown_away, unfinished } = Ends::of(samples);
+    let driven = output.iter().filter(|byte| **byte != NOT_DRIVEN).count();
+    format!(
+        "{part}, {} samples: answer 0, {}\n\
+         {ended} transactions ended, {thrown_away} thrown away, {unfinished} unfinished\n\
+         output driven after {driven} samples",
+        samples.len(),
+        Answer::Executed
+    )
+}

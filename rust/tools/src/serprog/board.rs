@@ -1,0 +1,103 @@
+//! The chip on its board: the level of W, and time, which passes by a tick for each transaction and by
+//! delays. Nothing sleeps.
+
+use std::io::Write;
+
+use m25p::{Chip, Response};
+
+use super::options::Options;
+
+const WREN: u8 = 0x06;
+const WRSR: u8 = 0x01;
+
+pub struct Board {
+    chip: Chip,
+    w_high: bool,
+    tick_us: u32,
+    /// Microseconds that have passed but do not make a tick yet.
+    rest: u64,
+    trace: Option<Box<dyn Write + Send>>,
+}
+
+impl Board {
+    /// The part as delivered, with BP and SRWD as the options have them.
+    pub fn new(options: &Options) -> Board {
+        let chip = Chip::deliver(options.part, options.durations).expect("the options are checked");
+        let (w_high, tick_us) = (options.w_high, options.tick_us);
+        let mut board = Board { chip, w_high, tick_us, rest: 0, trace: None };
+        let status = u8::from(options.srwd) << 7 | options.bp << 2;
+        if status != 0 {
+            board.transact(&[WREN], true);
+            board.transact(&[WRSR, status], true);
+            board.wait(u64::from(options.durations.write_status));
+        }
+        board
+    }
+
+    /// One transaction: the bytes sent, then `read` dummy bytes. Hands back what came during these, or
+    /// none if the transaction was refused by the host side.
+    pub fn operate(&mut self, mut sent: Vec<u8>, read: usize) -> Option<Vec<u8>> {
+        let written = sent.len();
+        sent.resize(written + read, 0);
+        let Response { answer, mut line, .. } = self.transact(&sent, self.w_high);
+        self.wait(1);
+        let heard = answer.executed().is_ok() || answer.ignored();
+        heard.then(|| line.split_off(written))
+    }
+
+    /// Microseconds pass; what does not make a tick is kept for the next time.
+    pub fn delay(&mut self, micros: u64) {
+        let micros = self.rest + micros;
+        let tick = u64::from(self.tick_us);
+        self.rest = micros % tick;
+        if micros >= tick {
+            self.wait(micros / tick);
+        }
+    }
+
+    /// From now on each call is written down, with its answer.
+    pub fn trace(&mut self, into: Box<dyn Write + Send>) {
+        self.trace = Some(into);
+    }
+
+    pub fn array(&self) -> &[u8] {
+        self.chip.array()
+    }
+
+    /// The contents that the chip starts with, of the part's size.
+    pub fn fill(&mut self, contents: &[u8]) {
+        self.chip.array_mut().copy_from_slice(contents);
+    }
+
+    fn transact(&mut self, sent: &[u8], w_high: bool) -> Response {
+        let response = self.chip.transact(sent, 0, w_high);
+        if let Some(trace) = &mut self.trace {
+            let (answer, w) = (response.answer.number(), u8::from(w_high));
+            let line = match sent {
+                [] => format!("x {w} 0 = {answer} -"),
+                sent => format!("x {w} 0 {} = {answer} {}", hex(sent), hex(&response.line)),
+            };
+            let _ = writeln!(trace, "{line}");
+        }
+        response
+    }
+
+    /// No cycle is longer than the greatest wait of one call.
+    fn wait(&mut self, ticks: u64) {
+        let ticks = u32::try_from(ticks).unwrap_or(u32::MAX);
+        self.chip.wait(ticks);
+        if let Some(trace) = &mut self.trace {
+            let _ = writeln!(trace, "w {ticks} = 0 -");
+        }
+    }
+}
+
+fn hex(bytes: &[u8]) -> String {
+    let mut text = String::with_capacity(2 * bytes.len());
+    for byte in bytes {
+        for digit in [byte >> 4, byte & 15] {
+            text.push(b"0123456789ABCDEF"[usize::from(digit)] as char);
+        }
+    }
+    text
+}

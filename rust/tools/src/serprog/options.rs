@@ -1,0 +1,148 @@
+//! The options of the serprog server; a bad one is refused with a sentence.
+
+use std::ffi::{OsStr, OsString};
+use std::path::{Display, Path, PathBuf};
+
+use m25p::{Durations, Part};
+
+/// The parts that flashrom knows, by the same names.
+pub const PARTS: [Part; 4] = [Part::M25p10a, Part::M25p40, Part::M25p32, Part::M25p128];
+
+pub const USAGE: &str = "\
+serprog --part NAME [option]...   an M25P chip for flashrom, on a loopback port
+
+  --part NAME        M25P10-A, M25P40, M25P32 or M25P128, in capitals or small letters
+  --image FILE       the contents: a raw file of the part's size, read at start and written back
+                     when a client lets the pins go, when it has hung up, and at the end (SIGINT
+                     or SIGTERM); one server has it at a time
+  --port N           0 to 65535; 0, the default, takes a free one
+  --w 0|1            the level of the Write Protect pin W; 1
+  --bp N             block protection at start; 0
+  --srwd 0|1         status register write disable at start; 0
+  --tick-us N        the length of a tick in microseconds; 1000
+  --program N        ticks of a page program; 2
+  --sector-erase N   ticks of a sector erase; 1000
+  --bulk-erase N     ticks of a bulk erase; 10000
+  --write-status N   ticks of a status write; 5
+  --trace            print each transaction and wait as a line of the bench, with its answer
+";
+
+#[derive(Clone, Debug, PartialEq, Eq)]
+pub struct Options {
+    pub part: Part,
+    pub image: Option<PathBuf>,
+    pub port: u16,
+    pub w_high: bool,
+    pub bp: u8,
+    pub srwd: bool,
+    pub tick_us: u32,
+    pub durations: Durations,
+    pub trace: bool,
+}
+
+impl Options {
+    /// The part with every other option at its default.
+    pub fn of(part: Part) -> Options {
+        Options {
+            part,
+            image: None,
+            port: 0,
+            w_high: true,
+            bp: 0,
+            srwd: false,
+            tick_us: 1_000,
+            durations: Durations::from([2, 1_000, 10_000, 5]),
+            trace: false,
+        }
+    }
+
+    /// Reads the words behind the program's name.
+    pub fn parse(words: impl IntoIterator<Item = OsString>) -> Result<Options, String> {
+        let mut words = words.into_iter();
+        let mut seen: Vec<OsString> = Vec::new();
+        let mut part = None;
+        let mut options = Options::of(Part::M25p10a);
+        while let Some(word) = words.next() {
+            let Some(name) = word.to_str().filter(|name| KNOWN.contains(name)) else {
+                return Err(format!("{} is not an option.", shown(&word)));
+            };
+            if seen.contains(&word) {
+                return Err(format!("{name} is given twice."));
+            }
+            if name == "--trace" {
+                options.trace = true;
+            } else {
+                let value = words.next().ok_or(format!("{name} has no value."))?;
+                match name {
+                    "--part" => part = Some(named(&value)?),
+                    _ => options.set(name, &value)?,
+                }
+            }
+            seen.push(word);
+        }
+        options.part = part.ok_or("--part is missing: M25P10-A, M25P40, M25P32 or M25P128.")?;
+        options.check()
+    }
+
+    fn set(&mut self, name: &str, value: &OsStr) -> Result<(), String> {
+        let number = |least, most| number(name, value, least, most);
+        let ticks = || number(1, 1_000_000);
+        match name {
+            "--image" => self.image = Some(PathBuf::from(value)),
+            "--port" => self.port = number(0, 65_535)? as u16,
+            "--w" => self.w_high = number(0, 1)? == 1,
+            "--bp" => self.bp = number(0, 7)? as u8,
+            "--srwd" => self.srwd = number(0, 1)? == 1,
+            "--tick-us" => self.tick_us = number(1, 1_000_000_000)?,
+            "--program" => self.durations.program = ticks()?,
+            "--sector-erase" => self.durations.sector_erase = ticks()?,
+            "--bulk-erase" => self.durations.bulk_erase = ticks()?,
+            _ => self.durations.write_status = ticks()?,
+        }
+        Ok(())
+    }
+
+    fn check(self) -> Result<Options, String> {
+        let highest = self.part.highest_bp();
+        if self.bp > highest {
+            return Err(format!("--bp is 0 to {highest} on the {}, not {}.", self.part, self.bp));
+        }
+        Ok(self)
+    }
+}
+
+const KNOWN: [&str; 12] = [
+    "--part",
+    "--image",
+    "--port",
+    "--w",
+    "--bp",
+    "--srwd",
+    "--tick-us",
+    "--program",
+    "--sector-erase",
+    "--bulk-erase",
+    "--write-status",
+    "--trace",
+];
+
+/// A part by its name, in any case.
+fn named(value: &OsStr) -> Result<Part, String> {
+    let found = PARTS.into_iter().find(|part| value.eq_ignore_ascii_case(part.name()));
+    let refusal = format!("--part is M25P10-A, M25P40, M25P32 or M25P128, not {}.", shown(value));
+    found.ok_or(refusal)
+}
+
+/// A word of the command line as text.
+fn shown(word: &OsStr) -> Display<'_> {
+    Path::new(word).display()
+}
+
+/// Decimal digits alone, within the limits.
+fn number(name: &str, value: &OsStr, least: u32, most: u32) -> Result<u32, String> {
+    let digits =
+        value.to_str().filter(|text| text.bytes().all(|character| character.is_ascii_digit()));
+    let number = digits.and_then(|digits| digits.parse().ok());
+    let refusal = format!("{name} is {least} to {most}, not {}.", shown(value));
+    number.filter(|number| (least..=most).contains(number)).ok_or(refusal)
+}

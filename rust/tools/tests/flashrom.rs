@@ -1,0 +1,184 @@
+//! flashrom against the server, where flashrom is on the machine: in PATH or in an sbin directory, or the
+//! one that FLASHROM names.
+
+mod support;
+
+use std::fs;
+use std::path::PathBuf;
+use std::time::Instant;
+
+use m25p::Part;
+use support::flashrom::{find, tell, Flashrom};
+use support::{rng::Rng, scratch, Server};
+
+/// A server and what flashrom needs to talk to it.
+struct Bench {
+    flashrom: Flashrom,
+    server: Server,
+    image: PathBuf,
+}
+
+impl Bench {
+    /// A server for the part with this image, if there is a flashrom.
+    fn new(test: &str, part: &str, contents: &[u8], options: &[&str]) -> Option<Bench> {
+        let program = find(test)?;
+        let directory = scratch(&format!("flashrom_{test}_{part}"));
+        let image = directory.join("chip.bin");
+        fs::write(&image, contents).unwrap();
+        let server = Server::start(part, options, Some(&image));
+        let flashrom = Flashrom { program, directory, port: server.port };
+        Some(Bench { flashrom, server, image })
+    }
+
+    fn read(&self, part: &str) -> Vec<u8> {
+        let file = self.flashrom.directory.join("read.bin");
+        self.flashrom.succeed(&["-c", part, "-r"], Some(&file));
+        fs::read(&file).unwrap()
+    }
+
+    fn status(&self) -> u8 {
+        self.server.client().operate(&[0x05], 1)[0]
+    }
+
+    /// Ends the server, whose image has these contents then.
+    fn end(self, contents: &[u8]) {
+        let end = self.server.stop();
+        assert!(end.status.success() && end.printed.is_empty(), "{}", end.complaints);
+        assert!(fs::read(&self.image).unwrap() == contents, "the image");
+    }
+}
+
+/// Pages of random bytes here and there, and in the first and the last place; else FF.
+fn sparse(bytes: usize, seed: u64) -> Vec<u8> {
+    let mut rng = Rng::new(seed);
+    let mut contents = vec![0xFF; bytes];
+    let last = bytes / 256 - 1;
+    for page in (0..20).map(|_| rng.below(last)).chain([0, last]).collect::<Vec<usize>>() {
+        rng.fill(&mut contents[256 * page..256 * (page + 1)]);
+    }
+    contents
+}
+
+/// Probe, read, write, verify, read back, write with one byte changed, erase.
+fn life(part: Part) {
+    let (part, bytes) = (part.name(), part.bytes());
+    let first = Rng::new(1).bytes(bytes);
+    let Some(bench) = Bench::new("life", part, &first, &[]) else { return };
+    let start = Instant::now();
+    let probe = bench.flashrom.succeed(&[], None);
+    let found: Vec<&str> = probe.lines().filter(|line| line.starts_with("Found ")).collect();
+    assert_eq!(found.len(), 1, "{probe}");
+    assert!(found[0].contains(&format!("\"{part}\"")), "{probe}");
+    assert!(bench.read(part) == first, "read");
+
+    let mut second = Rng::new(2).bytes(bytes);
+    let writing = Instant::now();
+    let (fine, said) = bench.flashrom.write(part, &second);
+    let writing = writing.elapsed();
+    assert!(fine && said.contains("VERIFIED."), "{said}");
+    assert!(fs::read(&bench.image).unwrap() == second, "the image, as soon as flashrom has ended");
+    bench
+        .flashrom
+        .succeed(&["-c", part, "-v"], Some(&bench.flashrom.directory.join("written.bin")));
+    assert!(bench.read(part) == second, "read back");
+
+    // One byte needs an erase, as all its bits change.
+    second[bytes / 2 + 77] ^= 0xFF;
+    let (fine, said) = bench.flashrom.write(part, &second);
+    assert!(fine && said.contains("VERIFIED."), "{said}");
+    assert!(bench.read(part) == second, "read back with one byte changed");
+
+    bench.flashrom.succeed(&["-c", part, "-E"], None);
+    let erased = vec![0xFF; bytes];
+    assert!(bench.read(part) == erased, "read back erased");
+    let (all, writing) = (start.elapsed().as_secs_f32(), writing.as_secs_f32());
+    tell(&format!("{part}: {all:.1} s, of which the random image took {writing:.1} s"));
+    bench.end(&erased);
+}
+
+#[test]
+fn m25p10_a() {
+    life(Part::M25p10a);
+}
+
+#[test]
+fn m25p40() {
+    life(Part::M25p40);
+}
+
+#[test]
+fn m25p32() {
+    life(Part::M25p32);
+}
+
+#[test]
+fn m25p128() {
+    life(Part::M25p128);
+}
+
+const ALL: [(Part, &str); 4] =
+    [(Part::M25p10a, "3"), (Part::M25p40, "7"), (Part::M25p32, "7"), (Part::M25p128, "7")];
+
+/// The whole array is protected, and flashrom unlocks it, writes, and restores BP and SRWD.
+#[test]
+fn unlocks_and_restores() {
+    for (part, bp) in ALL {
+        let (highest_bp, bytes, part) = (part.highest_bp(), part.bytes(), part.name());
+        for srwd in ["0", "1"] {
+            let options = ["--bp", bp, "--srwd", srwd];
+            let old = sparse(bytes, 3);
+            let Some(bench) = Bench::new("unlocks", part, &old, &options) else { return };
+            let before = bench.status();
+            assert_eq!(before, highest_bp << 2 | if srwd == "1" { 0x80 } else { 0 });
+            let contents = sparse(bytes, 4);
+            let (fine, said) = bench.flashrom.write(part, &contents);
+            assert!(fine && said.contains("VERIFIED."), "{part}:\n{said}");
+            assert_eq!(bench.status(), before, "{part}: BP and SRWD are restored");
+            bench.end(&contents);
+        }
+    }
+}
+
+/// SRWD set and W low: flashrom can't unlock, its write fails, and the array stays. On the M25P40 BP 4
+/// protects all of it already.
+#[test]
+fn hardware_protection_holds() {
+    for (part, bp) in ALL.into_iter().chain([(Part::M25p40, "4")]) {
+        let (bytes, part) = (part.bytes(), part.name());
+        let options = ["--bp", bp, "--srwd", "1", "--w", "0"];
+        let contents = sparse(bytes, 5);
+        let Some(bench) = Bench::new("holds", part, &contents, &options) else { return };
+        let before = bench.status() & !0x02;
+        let (fine, said) = bench.flashrom.write(part, &sparse(bytes, 6));
+        assert!(!fine, "{part}: the write succeeded:\n{said}");
+        assert_eq!(bench.status() & !0x02, before, "{part}: BP and SRWD stay");
+        assert!(bench.read(part) == contents, "{part}: the array stays");
+        bench.end(&contents);
+    }
+}
+
+/// W low with SRWD reset freezes nothing.
+#[test]
+fn w_low_alone() {
+    let contents = sparse(Part::M25p40.bytes(), 8);
+    let options = ["--bp", "7", "--w", "0"];
+    let old = sparse(Part::M25p40.bytes(), 7);
+    let Some(bench) = Bench::new("w_low", "M25P40", &old, &options) else { return };
+    let (fine, said) = bench.flashrom.write("M25P40", &contents);
+    assert!(fine, "{said}");
+    assert_eq!(bench.status(), 0x1C);
+    bench.end(&contents);
+}
+
+/// A chip in deep power-down is hidden from a probe by name until a RES wakes it.
+#[test]
+fn deep_power_down_hides() {
+    let contents = sparse(Part::M25p40.bytes(), 9);
+    let Some(bench) = Bench::new("deep", "M25P40", &contents, &[]) else { return };
+    bench.server.client().operate(&[0xB9], 0);
+    assert!(!bench.flashrom.run(&["-c", "M25P40"], None).0, "hidden");
+    assert!(!bench.flashrom.run(&["-c", "M25P40"], None).0, "still hidden");
+    bench.server.client().operate(&[0xAB], 0);
+    bench.flashrom.succeed(&["-c", "M25P40"], None);
+    bench.end(&contents);
+}
