@@ -2,7 +2,7 @@
 ghost use mathlib.Core.Path.{_≡_};
 ghost use Prim.Native.Nat.{_≤_};
 ghost use lib.ListN.{length};
-ghost use Rattle.chip.specs.Table.{instructionIn};
+ghost use Rattle.chip.specs.Table.{longest, instructionIn};
 ghost use Rattle.chip.specs.Answers.{deliveryAnswer};
 ghost use Rattle.chip.specs.Outcome.{bare, executedWith, outcomeOf, Meets, Transacted, Foreseen, Delivered};
 ghost use Rattle.chip.specs.declared.answers.Verdict.the-variants.{Executed};
@@ -19,6 +19,9 @@ use device::Device;
 use line::Span;
 use parts::Figures;
 use table::Instruction;
+
+// The most bytes that a transaction has.
+pub const LONGEST: usize = 65_536;
 
 // An answer: its number, the first driven position and the driven count.
 pub struct Answer {
@@ -48,7 +51,7 @@ impl Answer {
 
 // An executed transaction's answer and next record: what it drives, and its byte 1.
 fn executed(device: Device, asked: Instruction, span: Span, b: u8) -> Done
-    requires { ⌜ (span .first ≤ 65536) × (span .count ≤ 65536) ⌝ }
+    requires { ⌜ (span .first ≤ longest) × (span .count ≤ longest) ⌝ }
     ensures { λ o. ⌜ o ≡ executedWith device asked span b ⌝ }
 {
     let row = asked.row;
@@ -73,7 +76,7 @@ fn execute(
     sent: &[u8],
     response: &mut [u8],
 ) -> Done
-    requires { ⌜ (asked ≡ instructionIn device (now sent)) × (length (now sent) ≤ 65536) ⌝ }
+    requires { ⌜ (asked ≡ instructionIn device (now sent)) × (length (now sent) ≤ longest) ⌝ }
     ensures { λ o. ⌜ Meets (outcomeOf Executed device (now (array .entry)) (now (sent .entry)) (now (response .entry))) (o .answer) (o .device) (now (array .exit)) (now (response .exit)) ⌝ }
 {
     let figures = asked.figures;

@@ -2,12 +2,10 @@
 ghost use mathlib.Core.Path.{_≡_};
 ghost use Prim.Native.Nat.{_+_, _*_};
 ghost use Rattle.chip.specs.Table.{order, reading, write, unknown, alsoBusy, alsoDeep, onlyIf, rowOf, addressOf, instructionIn};
+use crate::LONGEST;
 use device::Device;
 use device::cycle::Kind;
 use parts::Figures;
-
-// The most bytes that a transaction has.
-pub(crate) const LONGEST: usize = 65_536;
 
 // What an instruction does: keep the record, set or reset the latch, start a cycle, go to deep power-down, leave it.
 pub enum Turn {

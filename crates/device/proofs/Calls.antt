@@ -7,8 +7,6 @@ use Prim.Native.Nat.{ℕ, _≤_}
 use native.Mathlib.Omega.{arith}
 use lib.ListN.{length}
 use borrow.Author.Tests.{ne-eqb}
-use Rattle.device.specs.declared.Mode.{Mode}
-use Rattle.device.specs.declared.Mode.the-variants.{Standby, Busy, Deep}
 use Rattle.device.specs.declared.Device.{Device}
 use Rattle.device.specs.Device.{sound, zeroRecord, waited, poweredUp, soundAnswer, waitCall, powerUpCall}
 use Rattle.device.specs.Packing.{packedLength, packOf, packAnswer, Packed, formed, fieldsOf, unpackAnswer, unpackOf}

@@ -10,7 +10,7 @@ use Rattle.device.specs.declared.Mode.the-variants.{Standby, Busy, Deep}
 use Rattle.device.specs.declared.Device.{Device}
 use Rattle.device.specs.declared.Checked.{Checked}
 use Rattle.device.specs.Device.{latchAt, moded, latched, settled, running, zeroRecord, delivered, waited, poweredUp, sound, statusByte, soundAnswer, waitCall, powerUpCall}
-use Rattle.device.specs.Packing.{headOf, packOf, fieldsOf, formed, packAnswer, unpackAnswer, unpackOf}
+use Rattle.device.specs.Packing.{packOf, fieldsOf, formed, packAnswer, unpackAnswer, unpackOf}
 
 -- a record by part, BP, SRWD, latch and mode; each duration has three bytes of its own
 abbrev pub of : ℕ → ℕ → Bool → Bool → Mode → Device

@@ -9,7 +9,7 @@ use lib.ListN.{length, getD}
 use Rattle.parts.specs.declared.Figures.{Figures}
 use Rattle.device.specs.declared.Mode.the-variants.{Standby}
 use Rattle.device.specs.declared.Device.{Device}
-use Rattle.chip.specs.Table.{addressOf}
+use Rattle.chip.specs.Table.{longest, addressOf}
 use Rattle.chip.specs.Events.{Chip, Good, Event, sends, waits, after, told, run}
 
 -- ---- a job and its four calls
@@ -112,7 +112,7 @@ pub record AtRest (c : Chip) : Type 0 where
 pub record WellFormed (j : Job) : Type 0 where
   pub kind : isProgram j || isErase j ≡ true
   pub addressed : isBulkErase j ≡ false → 4 ≤ length (j .sent)
-  pub few : length (j .sent) ≤ 65536
+  pub few : length (j .sent) ≤ longest
   pub pulses : j .pulses ≤ 7
 
 -- every job of a list

@@ -4,6 +4,7 @@ use mathlib.Core.List.{List, [], _∷_, _++_}
 use Prim.Native.Nat.{ℕ, _+_, _*_, _/_, _%_}
 use lib.Dec.{eqb, leb, ltb}
 use lib.ListN.{length}
+use Rattle.chip.specs.Table.{longest}
 use Rattle.pins.specs.declared.levels.Levels.{Levels}
 
 -- ---- the levels
@@ -129,7 +130,7 @@ step x now =
       pins = nextPins (x .pins) now;
       taking = nextTaking (x .pins) now (x .taking);
       found = nextFound (x .pins) now (x .taking) (x .found);
-      long = x .long || ltb 65536 (length (nextTaking (x .pins) now (x .taking) .sent));
+      long = x .long || ltb longest (length (nextTaking (x .pins) now (x .taking) .sent));
     }
 
 -- samples, one after the other

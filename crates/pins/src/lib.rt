@@ -3,6 +3,7 @@ ghost use mathlib.Core.Path.{_≡_};
 ghost use mathlib.Core.Bool.{false, cond};
 ghost use Prim.Native.Nat.{_≤_, _<_};
 ghost use lib.ListN.{length, take};
+ghost use Rattle.chip.specs.Table.{longest};
 ghost use Rattle.pins.specs.Pins.{oddSamples, tooLong};
 ghost use Rattle.pins.specs.Run.{runAnswer, Ran};
 ghost use Rattle.pins.specs.Counted.{pinsOf, nextCount, endedWith, CarriedOut, CarriedAll};
@@ -121,7 +122,7 @@ fn carry_all(
     sent: &mut [u8],
     response: &mut [u8],
 ) -> Device
-    requires { ⌜ (tooLong (now samples) ≡ false) × (length (now samples) ≤ length (now output)) × (65536 ≤ length (now sent)) × (65536 ≤ length (now response)) ⌝ }
+    requires { ⌜ (tooLong (now samples) ≡ false) × (length (now samples) ≤ length (now output)) × (longest ≤ length (now sent)) × (longest ≤ length (now response)) ⌝ }
     ensures { λ r. ⌜ CarriedAll device (now (array .entry)) (now (samples .entry)) (now (output .entry)) r (now (array .exit)) (now (output .exit)) ⌝ }
 {
     let mut device = device;
@@ -157,8 +158,8 @@ pub fn run(device: Device, array: &mut [u8], samples: &[u8], output: &mut [u8]) 
             device,
         };
     }
-    let mut sent = [0u8; 65_536];
-    let mut response = [0u8; 65_536];
+    let mut sent = [0u8; chip::LONGEST];
+    let mut response = [0u8; chip::LONGEST];
     let next = carry_all(device, array, samples, output, &mut sent, &mut response);
     Checked {
         answer: 0,

@@ -17,35 +17,14 @@ abbrev μ-loop : tie.MeasureT-loop
 μ-loop array₀ samples output₀ sent₀ response₀ device₀ before₀ holding₀ under₀ i₀ array output sent response device before holding under i =
     length samples - i
 
-none-requires : tie.Need-none-requires Inv-loop μ-loop
-none-requires c κs = search needs
-
 loop-holds : tie.Need-loop-holds Inv-loop μ-loop
 loop-holds c = (search needs, refl, refl, refl, refl, rw (c .none .ensures) (held-first _ _ _ _ _))
-
-of-requires : tie.Need-of-requires Inv-loop μ-loop
-of-requires c κs = search needs
-
-shared-slice-read-of : tie.Need-shared-slice-read-of Inv-loop μ-loop
-shared-slice-read-of c = search needs
-
-of-requires-2 : tie.Need-of-requires-2 Inv-loop μ-loop
-of-requires-2 c κs = search needs
-
-changes-requires : tie.Need-changes-requires Inv-loop μ-loop
-changes-requires c κs = search needs
 
 carry-out-requires : tie.Need-carry-out-requires Inv-loop μ-loop
 carry-out-requires c κs =
     let l = c .before .before .before .before .before .before .before .before .before .loop in
     let s = c .before .before .before .before .before .before .before .before .before .before .before .before .before .before .before .before in
     omega (arith, whole-few (l .inv .5) (s .pre .0), l .inv .3, s .pre .2)
-
-none-requires-2 : tie.Need-none-requires-2 Inv-loop μ-loop
-none-requires-2 c κs = search needs
-
-on-select-requires : tie.Need-on-select-requires Inv-loop μ-loop
-on-select-requires c κs = search needs
 
 clocked-requires : tie.Need-clocked-requires Inv-loop μ-loop
 clocked-requires c κs =
@@ -64,23 +43,11 @@ clocked-requires c κs =
     let eh = c .before .before .on-select .ensures in
     (begun-few _ _ _ _ (l .i) lt (s .pre .0) (l .inv .5) ew en b eh, begun-room _ _ _ _ (l .i) lt (s .pre .0) (l .inv .5) ew en b eh sent)
 
-on-hold-requires : tie.Need-on-hold-requires Inv-loop μ-loop
-on-hold-requires c κs = search needs
-
-when-requires : tie.Need-when-requires Inv-loop μ-loop
-when-requires c κs = search needs
-
 slice-write-output : tie.Need-slice-write-output Inv-loop μ-loop
 slice-write-output c = omega (arith, c .before .before .before .before .before .before .before .before .before .before .before .before .before .before .before .loop .inv .2, c .before .before .before .before .before .before .before .before .before .before .before .before .before .before .before .before .before .before .before .before .before .before .pre .1, c .before .before .before .before .before .before .before .before .before .before .before .before .before .before .loop-test .taken)
 
-shared-slice-read-before : tie.Need-shared-slice-read-before Inv-loop μ-loop
-shared-slice-read-before c = search needs
-
 add-i : tie.Need-add-i Inv-loop μ-loop
 add-i c = record { fits = omega (arith, c .before .before .before .before .before .before .before .before .before .before .before .before .before .before .before .before .before .before .before .before .before .before .before .good .1 .1 .0 .0, c .before .before .before .before .before .before .before .before .before .before .before .before .before .before .before .loop-test .taken) }
-
-loop-less : tie.Need-loop-less Inv-loop μ-loop
-loop-less c = search needs
 
 loop-again : tie.Need-loop-again Inv-loop μ-loop
 loop-again c =
@@ -105,18 +72,6 @@ loop-again c =
       held-next _ _ _ _ (l .i) lt (s .pre .0) (l .inv .5) ew en b (c .before .before .before .before .before .before .before .before .before .on-select .ensures) out (s .pre .1) sent (c .before .before .before .before .before .before .clocked .ensures) (c .before .before .before .on-hold .ensures) (c .before .when .ensures),
     )
 
-same-length : tie.Need-same-length Inv-loop μ-loop
-same-length c = search needs
-
-same-length-2 : tie.Need-same-length-2 Inv-loop μ-loop
-same-length-2 c = search needs
-
-same-length-3 : tie.Need-same-length-3 Inv-loop μ-loop
-same-length-3 c = search needs
-
-same-length-4 : tie.Need-same-length-4 Inv-loop μ-loop
-same-length-4 c = search needs
-
 returns : tie.Need-returns Inv-loop μ-loop
 returns c = held-last (c .before .loop .inv .5) (omega arith)
 
@@ -126,25 +81,25 @@ carry-all-spec =
     (tie.spec
     Inv-loop
     μ-loop
-    none-requires
+    (λ c κs. search needs)
     loop-holds
-    of-requires
-    shared-slice-read-of
-    of-requires-2
-    changes-requires
+    (λ c κs. search needs)
+    (λ c. search needs)
+    (λ c κs. search needs)
+    (λ c κs. search needs)
     carry-out-requires
-    none-requires-2
-    on-select-requires
+    (λ c κs. search needs)
+    (λ c κs. search needs)
     clocked-requires
-    on-hold-requires
-    when-requires
+    (λ c κs. search needs)
+    (λ c κs. search needs)
     slice-write-output
-    shared-slice-read-before
+    (λ c. search needs)
     add-i
-    loop-less
+    (λ c. search needs)
     loop-again
-    same-length
-    same-length-2
-    same-length-3
-    same-length-4
+    (λ c. search needs)
+    (λ c. search needs)
+    (λ c. search needs)
+    (λ c. search needs)
     returns)

@@ -8,22 +8,10 @@ use borrow.Author.Needs.{needs}
 use Rattle.pins.proofs.carry_out.Statement.{statement}
 use Rattle.pins.proofs.carry_out.Tie as tie
 
-ends-requires : tie.Need-ends-requires
-ends-requires c κs = search needs
-
 slice-aggregate-transact : tie.Need-slice-aggregate-transact
 slice-aggregate-transact c =
     let b = c .before .before .before .before .before .before .before in
     sym (length-take-le _ _ (b .pre))
-
-transact-requires : tie.Need-transact-requires
-transact-requires c κs = search needs
-
-same-length : tie.Need-same-length
-same-length c = search needs
-
-same-length-2 : tie.Need-same-length-2
-same-length-2 c = search needs
 
 returns : tie.Need-returns
 unfolding endedWith
@@ -45,10 +33,10 @@ pub carry-out-spec : {M : Type 1} → statement M
 carry-out-spec =
     tie.close
     (tie.spec
-    ends-requires
+    (λ c κs. search needs)
     slice-aggregate-transact
-    transact-requires
-    same-length
-    same-length-2
+    (λ c κs. search needs)
+    (λ c. search needs)
+    (λ c. search needs)
     returns
     returns-2)

@@ -11,15 +11,6 @@ use borrow.Author.Needs.{needs}
 use Rattle.pins.proofs.next_count.Statement.{statement}
 use Rattle.pins.proofs.next_count.Tie as tie
 
-changes-requires : tie.Need-changes-requires
-changes-requires c κs = search needs
-
-kept-requires : tie.Need-kept-requires
-kept-requires c κs = search needs
-
-takes-requires : tie.Need-takes-requires
-takes-requires c κs = search needs
-
 add-result : tie.Need-add-result
 add-result c =
     let a = c .before .before .before .before .args in
@@ -42,4 +33,4 @@ returns-2 c =
 
 pub next-count-spec : {M : Type 1} → statement M
 next-count-spec =
-    tie.close (tie.spec changes-requires kept-requires takes-requires add-result returns returns-2)
+    tie.close (tie.spec (λ c κs. search needs) (λ c κs. search needs) (λ c κs. search needs) add-result returns returns-2)

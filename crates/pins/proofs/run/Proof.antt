@@ -6,31 +6,16 @@ use borrow.Author.Needs.{needs}
 use Rattle.pins.proofs.run.Statement.{statement}
 use Rattle.pins.proofs.run.Tie as tie
 
-run-number-requires : tie.Need-run-number-requires
-run-number-requires c κs = search needs
-
 returns : tie.Need-returns
 returns c =
     let a = c .before .before .before .before .before .args in
     refused (a .device) (a .array .now) (a .samples .now) (a .output .now) _ (c .before .run-number .ensures) (c .if1 .taken) refl refl
-
-slice-aggregate-carry-all : tie.Need-slice-aggregate-carry-all
-slice-aggregate-carry-all c = search needs
-
-slice-aggregate-carry-all-2 : tie.Need-slice-aggregate-carry-all-2
-slice-aggregate-carry-all-2 c = search needs
 
 carry-all-requires : tie.Need-carry-all-requires
 carry-all-requires c κs =
     let a = c .before .before .before .before .before .before .before .before .before .args in
     let k = accepted (a .device) (length (a .array .now)) (a .samples .now) (length (a .output .now)) (sym (c .before .before .before .before .before .run-number .ensures) ∙ c .before .before .before .before .if1 .left) in
     (k .short, k .room, search needs, search needs)
-
-same-length : tie.Need-same-length
-same-length c = search needs
-
-same-length-2 : tie.Need-same-length-2
-same-length-2 c = search needs
 
 returns-2 : tie.Need-returns-2
 returns-2 c =
@@ -41,11 +26,11 @@ pub run-spec : {M : Type 1} → statement M
 run-spec =
     tie.close
     (tie.spec
-    run-number-requires
+    (λ c κs. search needs)
     returns
-    slice-aggregate-carry-all
-    slice-aggregate-carry-all-2
+    (λ c. search needs)
+    (λ c. search needs)
     carry-all-requires
-    same-length
-    same-length-2
+    (λ c. search needs)
+    (λ c. search needs)
     returns-2)

@@ -20,32 +20,8 @@ abbrev μ-loop : tie.MeasureT-loop
 loop-holds : tie.Need-loop-holds Inv-loop μ-loop
 loop-holds c = (search needs, counting-first _)
 
-of-requires : tie.Need-of-requires Inv-loop μ-loop
-of-requires c κs = search needs
-
-shared-slice-read-of : tie.Need-shared-slice-read-of Inv-loop μ-loop
-shared-slice-read-of c = search needs
-
-of-requires-2 : tie.Need-of-requires-2 Inv-loop μ-loop
-of-requires-2 c κs = search needs
-
-on-select-requires : tie.Need-on-select-requires Inv-loop μ-loop
-on-select-requires c κs = search needs
-
 next-count-requires : tie.Need-next-count-requires Inv-loop μ-loop
 next-count-requires c κs = let h = c .before .before .before .before .before .loop .inv .1 .few in omega arith
-
-on-hold-requires : tie.Need-on-hold-requires Inv-loop μ-loop
-on-hold-requires c κs = search needs
-
-shared-slice-read-before : tie.Need-shared-slice-read-before Inv-loop μ-loop
-shared-slice-read-before c = search needs
-
-add-i : tie.Need-add-i Inv-loop μ-loop
-add-i c = search needs
-
-loop-less : tie.Need-loop-less Inv-loop μ-loop
-loop-less c = search needs
 
 loop-again : tie.Need-loop-again Inv-loop μ-loop
 loop-again c =
@@ -69,14 +45,14 @@ too-long-spec =
     Inv-loop
     μ-loop
     loop-holds
-    of-requires
-    shared-slice-read-of
-    of-requires-2
-    on-select-requires
+    (λ c κs. search needs)
+    (λ c. search needs)
+    (λ c κs. search needs)
+    (λ c κs. search needs)
     next-count-requires
-    on-hold-requires
-    shared-slice-read-before
-    add-i
-    loop-less
+    (λ c κs. search needs)
+    (λ c. search needs)
+    (λ c. search needs)
+    (λ c. search needs)
     loop-again
     returns)

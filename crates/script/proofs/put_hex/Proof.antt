@@ -16,23 +16,8 @@ Inv-loop bytes text₀ at next₀ i₀ text next i = (i ≤ length bytes) × (le
 abbrev μ-loop : tie.MeasureT-loop
 μ-loop bytes text₀ at next₀ i₀ text next i = length bytes - i
 
-least-requires : tie.Need-least-requires Inv-loop μ-loop
-least-requires c κs = search needs
-
 loop-holds : tie.Need-loop-holds Inv-loop μ-loop
 loop-holds c = (search needs, search needs, printed-none (c .before .before .before .args .text .now) (c .before .before .before .args .at) (c .least .result) (c .least .ensures))
-
-shared-slice-read-put-byte : tie.Need-shared-slice-read-put-byte Inv-loop μ-loop
-shared-slice-read-put-byte c = search needs
-
-put-byte-requires : tie.Need-put-byte-requires Inv-loop μ-loop
-put-byte-requires c κs = search needs
-
-add-i : tie.Need-add-i Inv-loop μ-loop
-add-i c = search needs
-
-loop-less : tie.Need-loop-less Inv-loop μ-loop
-loop-less c = search needs
 
 loop-again : tie.Need-loop-again Inv-loop μ-loop
 loop-again c =
@@ -40,9 +25,6 @@ loop-again c =
     let l = c .before .before .before .before .before .before .loop in
     let h : l .i < length bytes = omega arith in
     (omega arith, search needs, rw (hex-next bytes (l .i) h) (printed-then (l .inv .2) (c .before .before .put-byte .ensures)))
-
-same-length : tie.Need-same-length Inv-loop μ-loop
-same-length c = search needs
 
 returns : tie.Need-returns Inv-loop μ-loop
 returns c =
@@ -56,12 +38,12 @@ put-hex-spec =
     (tie.spec
     Inv-loop
     μ-loop
-    least-requires
+    (λ c κs. search needs)
     loop-holds
-    shared-slice-read-put-byte
-    put-byte-requires
-    add-i
-    loop-less
+    (λ c. search needs)
+    (λ c κs. search needs)
+    (λ c. search needs)
+    (λ c. search needs)
     loop-again
-    same-length
+    (λ c. search needs)
     returns)

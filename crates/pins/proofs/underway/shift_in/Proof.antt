@@ -4,12 +4,6 @@ use borrow.Author.Needs.{needs}
 use Rattle.pins.proofs.underway.shift_in.Statement.{statement}
 use Rattle.pins.proofs.underway.shift_in.Tie as tie
 
-mul-up : tie.Need-mul-up
-mul-up c = search needs
-
-add-result : tie.Need-add-result
-add-result c = search needs
-
 returns : tie.Need-returns
 unfolding shifted
 returns c = rw (c .if1 .taken)
@@ -19,4 +13,4 @@ unfolding shifted
 returns-2 c = rw (c .if1 .left)
 
 pub shift-in-spec : {M : Type 1} → statement M
-shift-in-spec = tie.close (tie.spec mul-up add-result returns returns-2)
+shift-in-spec = tie.close (tie.spec (λ c. search needs) (λ c. search needs) returns returns-2)

@@ -11,12 +11,6 @@ use borrow.Author.Needs.{needs}
 use Rattle.pins.proofs.underway.Underway.bit_taken.Statement.{statement}
 use Rattle.pins.proofs.underway.Underway.bit_taken.Tie as tie
 
-shift-in-requires : tie.Need-shift-in-requires
-shift-in-requires c κs = search needs
-
-add-t11 : tie.Need-add-t11
-add-t11 c = search needs
-
 returns : tie.Need-returns
 unfolding oneMore stored
 returns c = let e = ne-eqb _ 7 (c .before .if1 .taken) in record { under = rw (e, c .before .before .before .shift-in .ensures); bytes = rw e }
@@ -36,12 +30,6 @@ slice-reshare-prefix-driven-byte c = let h = c .before .before .before .before .
 slice-aggregate-driven-byte : tie.Need-slice-aggregate-driven-byte
 slice-aggregate-driven-byte c = let h = c .before .before .before .before .before .before .pre .1 (c .before .if1 .left) in sym (length-take-le _ _ (simp length-set (omega arith)))
 
-driven-byte-requires : tie.Need-driven-byte-requires
-driven-byte-requires c κs = search needs
-
-same-length : tie.Need-same-length
-same-length c = search needs
-
 returns-2 : tie.Need-returns-2
 unfolding oneMore stored
 returns-2 c = let e = eq-eqb _ 7 (c .before .before .if1 .left) in record { under = rw (e, c .driven-byte .ensures, c .before .before .before .before .shift-in .ensures); bytes = rw (e, c .before .before .before .before .shift-in .ensures) }
@@ -50,14 +38,14 @@ pub bit-taken-spec : {M : Type 1} → statement M
 bit-taken-spec =
     tie.close
     (tie.spec
-    shift-in-requires
-    add-t11
+    (λ c κs. search needs)
+    (λ c. search needs)
     returns
     cast-sent
     slice-write-sent
     add-n
     slice-reshare-prefix-driven-byte
     slice-aggregate-driven-byte
-    driven-byte-requires
-    same-length
+    (λ c κs. search needs)
+    (λ c. search needs)
     returns-2)

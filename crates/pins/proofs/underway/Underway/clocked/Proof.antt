@@ -7,16 +7,10 @@ use borrow.Author.Needs.{needs}
 use Rattle.pins.proofs.underway.Underway.clocked.Statement.{statement}
 use Rattle.pins.proofs.underway.Underway.clocked.Tie as tie
 
-takes-requires : tie.Need-takes-requires
-takes-requires c κs = search needs
-
 bit-taken-requires : tie.Need-bit-taken-requires
 bit-taken-requires c κs =
     let s = c .before .before .before .before .before in
     (s .pre .0, s .pre .1 (sym (c .before .before .takes .ensures) ∙ c .before .if1 .taken))
-
-same-length : tie.Need-same-length
-same-length c = search needs
 
 returns : tie.Need-returns
 returns c =
@@ -25,12 +19,6 @@ returns c =
     let t : takes (selected (a .was) (a .levels) (a .held)) (a .levels) ≡ true = sym (b .before .takes .ensures) ∙ b .if1 .taken in
     let k = c .before .before .bit-taken .ensures in
     record { under = rw t (k .under); bytes = rw t (k .bytes) }
-
-moves-requires : tie.Need-moves-requires
-moves-requires c κs = search needs
-
-moved-on-requires : tie.Need-moved-on-requires
-moved-on-requires c κs = search needs
 
 returns-2 : tie.Need-returns-2
 returns-2 c =
@@ -52,11 +40,11 @@ pub clocked-spec : {M : Type 1} → statement M
 clocked-spec =
     tie.close
     (tie.spec
-    takes-requires
+    (λ c κs. search needs)
     bit-taken-requires
-    same-length
+    (λ c. search needs)
     returns
-    moves-requires
-    moved-on-requires
+    (λ c κs. search needs)
+    (λ c κs. search needs)
     returns-2
     returns-3)

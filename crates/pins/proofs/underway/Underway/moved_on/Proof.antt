@@ -4,12 +4,9 @@ use borrow.Author.Needs.{needs}
 use Rattle.pins.proofs.underway.Underway.moved_on.Statement.{statement}
 use Rattle.pins.proofs.underway.Underway.moved_on.Tie as tie
 
-bit-now-requires : tie.Need-bit-now-requires
-bit-now-requires c κs = search needs
-
 returns : tie.Need-returns
 unfolding shownOn
 returns c = rw (c .bit-now .ensures)
 
 pub moved-on-spec : {M : Type 1} → statement M
-moved-on-spec = tie.close (tie.spec bit-now-requires returns)
+moved-on-spec = tie.close (tie.spec (λ c κs. search needs) returns)
