@@ -1,9 +1,8 @@
 // The bench program: it reads lines, hands each to the bench part, and prints the answers. What a line asks and how an answer is printed stands in `script`.
 use device::Device;
 use script::Command;
+use slices::front;
 use slices::least;
-ghost use mathlib.Core.Path.{_≡_};
-ghost use lib.ListN.{take};
 
 // What stands between two bytes of input: the chip, the lines answered, the characters of the line so far, and how much text waits to be written.
 pub struct State {
@@ -24,14 +23,6 @@ pub struct Acted {
 pub enum Input {
     More(State),
     End(State),
-}
-
-// The first `n` bytes, as far as there are any.
-fn front(s: &[u8], n: usize) -> &[u8]
-    ensures { λ r. ⌜ now r ≡ take n (now (s .entry)) ⌝ }
-{
-    let end = least(n, s.len());
-    &s[..end]
 }
 
 // Writes the text that waits.

@@ -51,7 +51,7 @@ fn row(d: Device, a: &mut [u8], b: &mut [u8], sectors: u32, size: u32) {
 
 // One row: the BP, a colon and the letters.
 fn labelled(d: Device, bp: u8, a: &mut [u8], b: &mut [u8], sectors: u32, size: u32) {
-    text::print_number(text::wide(bp));
+    show::print_number(show::wide(bp));
     io::write_all(1, b":");
     row(steps::settings(d, false, bp, true), a, b, sectors, size);
 }

@@ -15,10 +15,10 @@ fn print_given(name: &[u8], x: Checked, a: &[u8]) {
     let d = x.device;
     let zero = Device::zero();
     io::write_all(1, name);
-    text::print_number(x.answer as u64);
-    text::print_choice(steps::same_record(d, zero), b" zero", b" given");
-    text::print_choice(text::all_are(a, 0, 0x33), b" kept", b" changed");
-    text::print_choice(text::all_are(a, 0, 0xFF), b" erased\n", b" not erased\n");
+    show::print_number(x.answer as u64);
+    show::print_choice(steps::same_record(d, zero), b" zero", b" given");
+    show::print_choice(text::all_are(a, 0, 0x33), b" kept", b" changed");
+    show::print_choice(text::all_are(a, 0, 0xFF), b" erased\n", b" not erased\n");
 }
 
 // One delivery.

@@ -56,17 +56,17 @@ fn same_answer(x: Answer, y: Answer) -> bool {
 // Prints an answer.
 fn print_answer(x: Answer) {
     io::write_all(1, b" |");
-    text::print_number(x.number as u64);
-    text::print_number(x.first as u64);
-    text::print_number(x.count as u64);
+    show::print_number(x.number as u64);
+    show::print_number(x.first as u64);
+    show::print_number(x.count as u64);
     io::write_all(1, b" ");
 }
 
 // Prints the three marks.
 fn print_marks(record: bool, array: bool, beyond: bool) {
-    text::print_choice(record, b" -", b" r");
-    text::print_choice(array, b"-", b"a");
-    text::print_choice(beyond, b"-", b"b");
+    show::print_choice(record, b" -", b" r");
+    show::print_choice(array, b"-", b"a");
+    show::print_choice(beyond, b"-", b"b");
 }
 
 // One transaction by value, on a response of 55s.
@@ -173,7 +173,7 @@ fn send(
     let w = byte_at(script, text::after(at, 2)) == b'1';
     let pulses = text::digit(byte_at(script, text::after(at, 4)));
     let n = text::read_bytes(script, text::after(at, 6), end, sent);
-    exchange(t, a, b, text::front(sent, n), pulses as u32, w, r, s)
+    exchange(t, a, b, slices::front(sent, n), pulses as u32, w, r, s)
 }
 
 // Waits, and prints the answer.
@@ -183,7 +183,7 @@ fn wait(t: Two, ticks: u8) -> Two {
     let x = d.wait(ticks as u32);
     let y = e.wait(ticks as u32);
     io::write_all(1, b" wait");
-    text::print_number(x.answer as u64);
+    show::print_number(x.answer as u64);
     let by_value = x.device;
     let lent = y.device;
     Two {
@@ -200,7 +200,7 @@ fn power_up(t: Two) -> Two {
     let x = d.power_up();
     let y = e.power_up();
     io::write_all(1, b" power");
-    text::print_number(x.answer as u64);
+    show::print_number(x.answer as u64);
     let by_value = x.device;
     let lent = y.device;
     Two {
@@ -237,13 +237,13 @@ pub(crate) fn print_byte(array: &[u8], at: usize) {
     io::write_all(1, b" ");
     io::print_hex(1, at as u64, 6);
     io::write_all(1, b" is ");
-    io::print_hex(1, text::wide(byte_at(array, at)), 2);
+    io::print_hex(1, show::wide(byte_at(array, at)), 2);
 }
 
 // Prints the status byte and the mode.
 fn print_status(d: Device) {
     io::write_all(1, b" status ");
-    io::print_hex(1, text::wide(d.status()), 2);
+    io::print_hex(1, show::wide(d.status()), 2);
     let mode = d.mode;
     match mode {
         Mode::Standby => {
@@ -251,7 +251,7 @@ fn print_status(d: Device) {
         }
         Mode::Busy(left) => {
             io::write_all(1, b" busy");
-            text::print_number(left as u64);
+            show::print_number(left as u64);
         }
         Mode::Deep => {
             io::write_all(1, b" deep");
@@ -348,7 +348,7 @@ pub(crate) fn ready(t: Two) -> Two {
 
 // Ends the line.
 pub(crate) fn finish(t: Two) {
-    text::print_choice(t.same, b" same\n", b" differ\n");
+    show::print_choice(t.same, b" same\n", b" differ\n");
 }
 
 // A whole case on a part whose array is lent twice.

@@ -1,11 +1,8 @@
-// Small total functions that read a script's digits and print numbers and bytes.
+// Small total functions that read a script's digits and print the front of a slice.
+use show::print_bytes;
 use slices::byte_at;
+use slices::front;
 use slices::least;
-
-// A byte as a number to print.
-pub(crate) fn wide(x: u8) -> u64 {
-    x as u64
-}
 
 // The value of a hexadecimal digit in capitals.
 pub(crate) fn digit(c: u8) -> u8 {
@@ -72,12 +69,6 @@ pub(crate) fn read_bytes(s: &[u8], from: usize, end: usize, out: &mut [u8]) -> u
     n
 }
 
-// The first `n` bytes, as far as there are any.
-pub(crate) fn front(s: &[u8], n: usize) -> &[u8] {
-    let end = least(n, s.len());
-    &s[..end]
-}
-
 // Whether each byte from `from` on is `v`.
 pub(crate) fn all_are(s: &[u8], from: usize, v: u8) -> bool {
     let mut i = from;
@@ -88,15 +79,6 @@ pub(crate) fn all_are(s: &[u8], from: usize, v: u8) -> bool {
         i += 1;
     }
     true
-}
-
-// Prints bytes in hexadecimal.
-pub(crate) fn print_bytes(s: &[u8]) {
-    let mut i = 0;
-    while i < s.len() {
-        io::print_hex(1, wide(s[i]), 2);
-        i += 1;
-    }
 }
 
 // Prints the first `n` bytes in hexadecimal: a dash where there are none, and 16 with two dots where there are more.
@@ -110,19 +92,4 @@ pub(crate) fn print_front(s: &[u8], n: usize) {
     if 16 < count {
         io::write_all(1, b"..");
     }
-}
-
-// Prints the first text where a test holds, else the second.
-pub(crate) fn print_choice(test: bool, yes: &[u8], no: &[u8]) {
-    if test {
-        io::write_all(1, yes);
-    } else {
-        io::write_all(1, no);
-    }
-}
-
-// Prints a space and a decimal number.
-pub(crate) fn print_number(n: u64) {
-    io::write_all(1, b" ");
-    io::print_decimal(1, n);
 }

@@ -22,8 +22,7 @@ fn step(device: Device, array: &mut [u8], sent: &[u8]) -> Device {
     let done = jobs::run_job(device, array, sent, 0, true, &mut response);
     let answer = done.answer;
     let number = answer.number;
-    io::write_all(1, b" ");
-    io::print_decimal(1, number as u64);
+    show::print_number(show::wide(number));
     done.device
 }
 
@@ -41,10 +40,6 @@ fn list(array: &mut [u8], settings: &[u8], first: &[u8], second: &[u8]) {
     pair(between, array, second, b"\x02\x00\x04\x00\x3C");
 }
 
-fn wide(x: u8) -> u64 {
-    x as u64
-}
-
 // What the two orders left.
 fn compare(a: &[u8; 4096], b: &[u8; 4096]) {
     if check::same(a, b) {
@@ -52,9 +47,9 @@ fn compare(a: &[u8; 4096], b: &[u8; 4096]) {
     } else {
         io::write_all(1, b" differ ");
     }
-    io::print_hex(1, wide(a[16]), 2);
+    io::print_hex(1, show::wide(a[16]), 2);
     io::write_all(1, b" ");
-    io::print_hex(1, wide(b[16]), 2);
+    io::print_hex(1, show::wide(b[16]), 2);
     io::write_all(1, b"\n");
 }
 

@@ -4,33 +4,9 @@ use device::Mode;
 use device::packing;
 use device::packing::LENGTH;
 
-// A byte as a number to print.
-fn wide(x: u8) -> u64 {
-    x as u64
-}
-
-// Prints bytes in hexadecimal.
-fn print_bytes(s: &[u8]) {
-    let mut i = 0;
-    while i < s.len() {
-        io::print_hex(1, wide(s[i]), 2);
-        i += 1;
-    }
-}
-
 // Prints a space and an answer.
 fn print_answer(n: u8) {
-    io::write_all(1, b" ");
-    io::print_decimal(1, n as u64);
-}
-
-// Prints the first text where a test holds, else the second.
-fn print_choice(test: bool, yes: &[u8], no: &[u8]) {
-    if test {
-        io::write_all(1, yes);
-    } else {
-        io::write_all(1, no);
-    }
+    show::print_number(show::wide(n));
 }
 
 // A record with durations 1,000,000, 1, 258 and 65,536.
@@ -67,8 +43,8 @@ fn round(name: &[u8], d: Device) {
     print_answer(u.answer);
     print_answer(q);
     io::write_all(1, b" ");
-    print_bytes(&bytes);
-    print_choice(check::same(&bytes, &again), b" same\n", b" differ\n");
+    show::print_bytes(&bytes);
+    show::print_choice(check::same(&bytes, &again), b" same\n", b" differ\n");
 }
 
 // Packs a record into a buffer of 55s.
@@ -83,7 +59,7 @@ fn pack_into(name: &[u8], d: Device, out: &mut [u8]) {
     io::write_all(1, name);
     print_answer(p);
     io::write_all(1, b" ");
-    print_bytes(out);
+    show::print_bytes(out);
     io::write_all(1, b"\n");
 }
 
@@ -127,7 +103,7 @@ fn unpack_from(name: &[u8], bytes: &[u8]) {
     io::write_all(1, name);
     print_answer(u.answer);
     print_answer(p);
-    print_choice(is_zero(d), b" zero\n", b" given\n");
+    show::print_choice(is_zero(d), b" zero\n", b" given\n");
 }
 
 // Unpacks a record's bytes after one of them was set.

@@ -2,7 +2,7 @@
 ghost use mathlib.Core.Path.{_≡_};
 ghost use mathlib.Core.Bool.{cond};
 ghost use Prim.Native.Nat.{_+_, _*_, _%_, min};
-ghost use lib.ListN.{getD};
+ghost use lib.ListN.{getD, take};
 ghost use Rattle.slices.specs.Changed.{mapAt, window, put, stored};
 ghost use Rattle.slices.specs.Bytes.{sameBytes, word, wordAt};
 
@@ -39,6 +39,14 @@ pub fn byte_at(s: &[u8], i: usize) -> u8
     ensures { λ r. ⌜ r ≡ getD (now (s .entry)) i 0 ⌝ }
 {
     if i < s.len() { s[i] } else { 0 }
+}
+
+// The first `n` bytes, as far as there are any.
+pub fn front(s: &[u8], n: usize) -> &[u8]
+    ensures { λ r. ⌜ now r ≡ take n (now (s .entry)) ⌝ }
+{
+    let end = least(n, s.len());
+    &s[..end]
 }
 
 // The little-endian number of the four bytes from `at` on; those past the end are 0.

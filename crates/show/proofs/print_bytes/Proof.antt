@@ -2,8 +2,8 @@
 use Prim.Native.Nat.{_≤_, _-_}
 use lib.ListN.{length}
 use borrow.Author.Needs.{needs}
-use Rattle.pack_run.proofs.print_bytes.Statement.{statement}
-use Rattle.pack_run.proofs.print_bytes.Tie as tie
+use Rattle.show.proofs.print_bytes.Statement.{statement}
+use Rattle.show.proofs.print_bytes.Tie as tie
 
 abbrev Inv-loop : tie.InvT-loop
 Inv-loop s i₀ i = i ≤ length s

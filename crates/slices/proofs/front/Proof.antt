@@ -1,4 +1,4 @@
--- `front` meets its contract: an end past the slice's leaves the whole.
+-- `slices::front` meets its contract: an end past the slice's leaves the whole.
 use mathlib.Core.Path.{_≡_, refl, sym, _∙_, ap}
 use mathlib.Core.Bool.{Bool, true, false}
 use mathlib.Core.List.{List}
@@ -9,8 +9,8 @@ use lib.Dec.{leb}
 use lib.ListN.{length, take}
 use lib.Seq.{length-take-le, take-all}
 use borrow.Author.Needs.{needs}
-use Rattle.bench.proofs.front.Statement.{statement}
-use Rattle.bench.proofs.front.Tie as tie
+use Rattle.slices.proofs.front.Statement.{statement}
+use Rattle.slices.proofs.front.Tie as tie
 
 -- the first n bytes of a list, which it may not have
 front-is : (xs : List ℕ) (n end : ℕ) → end ≡ min n (length xs) → take end xs ≡ take n xs
