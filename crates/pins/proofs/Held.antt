@@ -51,9 +51,9 @@ pub whole-few : {d : Device} {a samples o : List ℕ} {i : ℕ} {array output se
     → Held d a samples o i array output sent device before holding u → tooLong samples ≡ false → u .whole ≤ 65536
 whole-few {d} {a} {samples} {o} {i} h e = rw (whole-is (chipAfter d a (take i samples)) (seen (take i samples) .taking) (h .under)) (short samples i e)
 
-shows : (c : Chip) (x : Seen) {u : Underway} → u ≡ underwayOf c (x .taking) → cond (x .pins .select || x .pins .holding) 2 (u .bit) ≡ outputOf c x
-unfolding underwayOf outputOf
-shows c x e = rw e
+shows : (c : Chip) (x : Seen) (now : Levels) (holding : Bool) {u : Underway} → pinsOf now holding ≡ x .pins → u ≡ underwayOf c (x .taking) → cond (now .select || holding) 2 (u .bit) ≡ outputOf c x
+unfolding pinsOf underwayOf outputOf
+shows c x now holding p e = rw (← p, e)
 
 module _ (d : Device) (a samples o : List ℕ) (i : ℕ) (lt : i < length samples) (fine : tooLong samples ≡ false)
     {array output sent : List ℕ} {device : Device} {before : ℕ} {holding : Bool} {u : Underway} (h : Held d a samples o i array output sent device before holding u)
@@ -124,7 +124,7 @@ module _ (d : Device) (a samples o : List ℕ) (i : ℕ) (lt : i < length sample
     pub held-next : {u″ : Underway} {holding′ : Bool} {sent′ : List ℕ} {v : ℕ} → length output ≡ length o → length samples ≤ length o → 65536 ≤ length sent
         → Clocked u′ device′ array′ sent (selected was now held) now u″ sent′ → holding′ ≡ heldAfter now held → v ≡ cond (now .select || holding′) 2 (u″ .bit)
         → Held d a samples o (i + 1) array′ (set output i v) sent′ device′ (getD samples i 0) holding′ u″
-    unfolding outputAt outputAfter step pinsOf
+    unfolding outputAt outputAfter step
     held-next {u″} {holding′} {sent′} {v} len fits room q e ev =
         let c = chipAfter d a (take (i + 1) samples) in
         let g : device′ ≡ c .device = ap (λ (z : Chip). z .device) (b .chip) in
@@ -138,7 +138,7 @@ module _ (d : Device) (a samples o : List ℕ) (i : ℕ) (lt : i < length sample
           under = w;
           bytes = rw taking-is (k .1);
           chip = b .chip;
-          shown = loop-step 0 i (outputAt d a samples) o v (h .shown) (omega arith) (omega arith) (ev ∙ (ap (λ (z : Pins). cond (z .select || z .holding) 2 (u″ .bit)) p ∙ shows c y w));
+          shown = loop-step 0 i (outputAt d a samples) o v (h .shown) (omega arith) (omega arith) (ev ∙ shows c y now holding′ p w);
         }
 
 -- the run is over
