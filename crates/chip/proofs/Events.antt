@@ -20,7 +20,7 @@ use Rattle.chip.specs.Table.{addressOf, rowIn}
 use Rattle.chip.specs.Answers.{hostNumber, chipNumber, decided, verdictOf}
 use Rattle.chip.specs.Line.{heardRow, lined, firstOf, countOf}
 use Rattle.chip.specs.Outcome.{outcomeOf, transacted}
-use Rattle.chip.specs.Events.{Chip, Good, Event, sends, waits, starts, Told, sent, after, told, run, story}
+use Rattle.chip.specs.Events.{Chip, Good, Event, sends, waits, starts, Reply, sent, after, reply, run, story}
 use Rattle.chip.proofs.Lines.{span-is}
 use Rattle.chip.proofs.Verdicts.{Decision, refuses, ignores, executes, verdict-is}
 use Rattle.chip.proofs.Rules.{array-length, response-length, stays-sound, make-stays}
@@ -34,7 +34,7 @@ run-append (e ∷ a) b c = run-append a b (after e c)
 
 pub story-append : (a b : List Event) (c : Chip) → story (a ++ b) c ≡ story a c ++ story b (run a c)
 story-append [] b c = refl
-story-append (e ∷ a) b c = ap (λ (t : List Told). told e c ∷ t) (story-append a b (after e c))
+story-append (e ∷ a) b c = ap (λ (t : List Reply). reply e c ∷ t) (story-append a b (after e c))
 
 pub story-length : (es : List Event) (c : Chip) → length (story es c) ≡ length es
 story-length [] c = refl
@@ -125,13 +125,13 @@ after-alike e a b k = record { device = devices e; long = after-length e a ∙ (
     devices (waits t) = rw (k .device)
     devices starts = rw (k .device)
 
-pub told-alike : (e : Event) (a b : Chip) → Alike a b → Same (told e a .answer) (told e b .answer)
-told-alike (sends bytes p w) a b k = sent-alike a b k bytes p w .0
-told-alike (waits t) a b k = rw (k .device) (record { number = refl; first = refl; count = refl })
-told-alike starts a b k = rw (k .device) (record { number = refl; first = refl; count = refl })
+pub reply-alike : (e : Event) (a b : Chip) → Alike a b → Same (reply e a .answer) (reply e b .answer)
+reply-alike (sends bytes p w) a b k = sent-alike a b k bytes p w .0
+reply-alike (waits t) a b k = rw (k .device) (record { number = refl; first = refl; count = refl })
+reply-alike starts a b k = rw (k .device) (record { number = refl; first = refl; count = refl })
 
 -- so in each place of two stories
-abbrev pub AllSame : List Told → List Told → Type 0
+abbrev pub AllSame : List Reply → List Reply → Type 0
 AllSame [] [] = Unit {0}
 AllSame [] (t ∷ ts) = ⊥
 AllSame (s ∷ ss) [] = ⊥
@@ -141,7 +141,7 @@ pub run-alike : (es : List Event) (a b : Chip) → Alike a b → Alike (run es a
 run-alike [] a b k = (k, tt)
 run-alike (e ∷ es) a b k =
     let h = run-alike es (after e a) (after e b) (after-alike e a b k) in
-    (h .0, (told-alike e a b k, h .1))
+    (h .0, (reply-alike e a b k, h .1))
 
 -- ---- the response
 

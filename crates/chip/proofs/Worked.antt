@@ -18,24 +18,24 @@ use Rattle.device.specs.Cycles.{noSlots, touched}
 use Rattle.chip.specs.Change.{cycleOf, changed, bpIn, turned}
 use Rattle.chip.specs.Outcome.{outcomeOf, transacted}
 use Rattle.chip.specs.Worked.{Step, tells, holds, Case, gave, sees, fresh, all, cases, further}
-use Rattle.chip.specs.Events.{Chip, Event, sends, waits, starts, Told, sent, after, told}
+use Rattle.chip.specs.Events.{Chip, Event, sends, waits, starts, Reply, sent, after, reply}
 use Rattle.chip.proofs.Events.{after-length}
 
 -- an event on an array of a given length: what it leaves, and what is seen of it
 record Done : Type 0 where
   chip : Chip
-  told : Told
+  reply : Reply
 
 abbrev does : ℕ → Event → Chip → Done
 does len (sends bytes p w) c =
     let zeros : List ℕ = replicate (length bytes) 0 in
     let o = outcomeOf (verdictOf (c .device) len bytes p w (length zeros)) (c .device) (c .array) bytes zeros in
-    record { chip = record { device = o .device; array = o .array }; told = record { answer = o .answer; line = o .response } }
-does len (waits t) c = record { chip = after (waits t) c; told = told (waits t) c }
-does len starts c = record { chip = after starts c; told = told starts c }
+    record { chip = record { device = o .device; array = o .array }; reply = record { answer = o .answer; line = o .response } }
+does len (waits t) c = record { chip = after (waits t) c; reply = reply (waits t) c }
+does len starts c = record { chip = after starts c; reply = reply starts c }
 
 -- the length given is the array's
-does-is : (e : Event) (c : Chip) → does (length (c .array)) e c ≡ record { chip = after e c; told = told e c }
+does-is : (e : Event) (c : Chip) → does (length (c .array)) e c ≡ record { chip = after e c; reply = reply e c }
 unfolding sent transacted
 does-is (sends bytes p w) c = refl
 does-is (waits t) c = refl
@@ -46,15 +46,15 @@ unfoldable seesAt : ℕ → List Step → Chip → Bool
 seesAt len [] c = true
 seesAt len (tells e a r ∷ ss) c =
     let o = does len e c in
-    gave (o .told) a r && seesAt len ss (o .chip)
+    gave (o .reply) a r && seesAt len ss (o .chip)
 seesAt len (holds i x ∷ ss) c = eqb (getD (c .array) i 0) x && seesAt len ss c
 
 sees-at : (ss : List Step) (len : ℕ) (c : Chip) → length (c .array) ≡ len → seesAt len ss c ≡ sees ss c
 unfolding seesAt sees
 sees-at [] len c h = refl
 sees-at (tells e a r ∷ ss) len c h =
-    ap (λ (o : Done). gave (o .told) a r && seesAt len ss (o .chip)) (ap (λ (n : ℕ). does n e c) (sym h) ∙ does-is e c)
-    ∙ ap (λ (b : Bool). gave (told e c) a r && b) (sees-at ss len (after e c) (after-length e c ∙ h))
+    ap (λ (o : Done). gave (o .reply) a r && seesAt len ss (o .chip)) (ap (λ (n : ℕ). does n e c) (sym h) ∙ does-is e c)
+    ∙ ap (λ (b : Bool). gave (reply e c) a r && b) (sees-at ss len (after e c) (after-length e c ∙ h))
 sees-at (holds i x ∷ ss) len c h = ap (λ (b : Bool). eqb (getD (c .array) i 0) x && b) (sees-at ss len c h)
 
 -- `all`, with the arrays' lengths given

@@ -24,7 +24,7 @@ pub data Event : Type 0 where
   starts : Event
 
 -- what the caller sees: the answer, and as many response bytes as were sent
-pub record Told : Type 0 where
+pub record Reply : Type 0 where
   pub answer : Answer
   pub line : List ℕ
 
@@ -39,10 +39,10 @@ after (waits t) c = record { device = waitCall (c .device) t .device; array = c 
 after starts c = record { device = powerUpCall (c .device) .device; array = c .array }
 
 -- what the caller sees of one event
-abbrev pub told : Event → Chip → Told
-told (sends bytes pulses w) c = record { answer = sent c bytes pulses w .answer; line = sent c bytes pulses w .response }
-told (waits t) c = record { answer = bare (waitCall (c .device) t .answer); line = [] }
-told starts c = record { answer = bare (powerUpCall (c .device) .answer); line = [] }
+abbrev pub reply : Event → Chip → Reply
+reply (sends bytes pulses w) c = record { answer = sent c bytes pulses w .answer; line = sent c bytes pulses w .response }
+reply (waits t) c = record { answer = bare (waitCall (c .device) t .answer); line = [] }
+reply starts c = record { answer = bare (powerUpCall (c .device) .answer); line = [] }
 
 -- one event after the other
 abbrev pub run : List Event → Chip → Chip
@@ -50,6 +50,6 @@ run [] c = c
 run (e ∷ es) c = run es (after e c)
 
 -- what the caller sees, in order
-abbrev pub story : List Event → Chip → List Told
+abbrev pub story : List Event → Chip → List Reply
 story [] c = []
-story (e ∷ es) c = told e c ∷ story es (after e c)
+story (e ∷ es) c = reply e c ∷ story es (after e c)

@@ -10,7 +10,7 @@ use Rattle.device.specs.declared.Mode.the-variants.{Standby, Busy, Deep}
 use Rattle.device.specs.declared.Device.{Device}
 use Rattle.chip.specs.declared.Answer.{Answer}
 use Rattle.chip.specs.Outcome.{bare}
-use Rattle.chip.specs.Events.{Chip, Event, Told}
+use Rattle.chip.specs.Events.{Chip, Event, Reply}
 use Rattle.chip.specs.Events as chip
 
 -- ---- what is done, and what is seen
@@ -28,13 +28,13 @@ same (x ∷ xs) [] = false
 same (x ∷ xs) (y ∷ ys) = eqb x y && same xs ys
 
 -- the caller sees this answer and this line
-abbrev pub gave : Told → Answer → List ℕ → Bool
+abbrev pub gave : Reply → Answer → List ℕ → Bool
 gave o a r = eqb (o .answer .number) (a .number) && eqb (o .answer .first) (a .first) && eqb (o .answer .count) (a .count) && same (o .line) r
 
 -- all that is to be seen is seen, in order
 unfoldable pub sees : List Step → Chip → Bool
 sees [] c = true
-sees (tells e a r ∷ ss) c = gave (chip.told e c) a r && sees ss (chip.after e c)
+sees (tells e a r ∷ ss) c = gave (chip.reply e c) a r && sees ss (chip.after e c)
 sees (holds i x ∷ ss) c = eqb (getD (c .array) i 0) x && sees ss c
 
 pub record Case : Type 0 where

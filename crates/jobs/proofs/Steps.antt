@@ -22,7 +22,7 @@ use Rattle.chip.specs.Table.{rowOf, addressOf, rowIn}
 use Rattle.chip.specs.Answers.{hostNumber, chipNumber, asNeeded, inProtected, decided, verdictOf}
 use Rattle.chip.specs.Change.{changed, asItWas, turned}
 use Rattle.chip.specs.Outcome.{Outcome, outcomeOf, transacted}
-use Rattle.chip.specs.Events.{Chip, sends, sent, after, told, run}
+use Rattle.chip.specs.Events.{Chip, sends, sent, after, reply, run}
 use Rattle.chip.proofs.Events.{no-refusal}
 use Rattle.jobs.specs.Jobs.{Job, longestCycle, enable, carry, rest, disable, afterJob, answered, code, WellFormed, ExecutedOr15Or17}
 
@@ -117,7 +117,7 @@ module _ (d : Device) (s : sound d ≡ true) (xs : List ℕ) (z : length xs ≡ 
   unfolding outcomeOf decided turned changed rowOf latched moded
   wren-is = ap₂ chip (ap (λ (o : Outcome). o .device) wren-goes) (ap (λ (o : Outcome). o .array) wren-goes ∙ map-same xs)
 
-  pub wren-number : told (sends (0x06 ∷ []) 0 w) (chip (resting d l) xs) .answer .number ≡ 0
+  pub wren-number : reply (sends (0x06 ∷ []) 0 w) (chip (resting d l) xs) .answer .number ≡ 0
   unfolding outcomeOf decided
   wren-number = ap (λ (o : Outcome). o .answer .number) wren-goes
 
@@ -125,7 +125,7 @@ module _ (d : Device) (s : sound d ≡ true) (xs : List ℕ) (z : length xs ≡ 
   unfolding outcomeOf decided turned changed rowOf latched moded
   wrdi-is = ap₂ chip (ap (λ (o : Outcome). o .device) wrdi-goes) (ap (λ (o : Outcome). o .array) wrdi-goes ∙ map-same xs)
 
-  pub wrdi-number : told (sends (0x04 ∷ []) 0 w) (chip (resting d l) xs) .answer .number ≡ 0
+  pub wrdi-number : reply (sends (0x04 ∷ []) 0 w) (chip (resting d l) xs) .answer .number ≡ 0
   unfolding outcomeOf decided
   wrdi-number = ap (λ (o : Outcome). o .answer .number) wrdi-goes
 
@@ -167,7 +167,7 @@ module _ (d : Device) (s : sound d ≡ true) (xs : List ℕ) (z : length xs ≡ 
   enabled-is : after (enable j) (chip (resting d l) xs) ≡ chip (resting d true) xs
   enabled-is = wren-is d s xs z l (j .w₁)
 
-  pub enabled-number : told (enable j) (chip (resting d l) xs) .answer .number ≡ 0
+  pub enabled-number : reply (enable j) (chip (resting d l) xs) .answer .number ≡ 0
   enabled-number = wren-number d s xs z l (j .w₁)
 
   -- call 2
@@ -182,7 +182,7 @@ module _ (d : Device) (s : sound d ≡ true) (xs : List ℕ) (z : length xs ≡ 
 
   pub answered-is : answered j (chip (resting d l) xs) ≡ number d j
   answered-is =
-      ap (λ (c : Chip). told (carry j) c .answer .number) enabled-is ∙ (ap (λ (o : Outcome). o .answer .number) carried ∙ number-is (resting d true) xs (j .sent) zeros (number d j))
+      ap (λ (c : Chip). reply (carry j) c .answer .number) enabled-is ∙ (ap (λ (o : Outcome). o .answer .number) carried ∙ number-is (resting d true) xs (j .sent) zeros (number d j))
 
   abbrev going : Device
   going = cond (eqb (number d j) 0) (turned (rowIn d (j .sent) .turn) (figuresOf (d .part)) (resting d true) (getD (j .sent) 1 0)) (resting d true)
@@ -205,13 +205,13 @@ module _ (d : Device) (s : sound d ≡ true) (xs : List ℕ) (z : length xs ≡ 
   unfolding moded
   three-are = ap (after (rest d)) two-are ∙ ap (λ (e : Device). chip e ys) (going-waits .1 .1)
 
-  pub rested-number : told (rest (resting d l)) (run (enable j ∷ carry j ∷ []) (chip (resting d l) xs)) .answer .number ≡ 0
+  pub rested-number : reply (rest (resting d l)) (run (enable j ∷ carry j ∷ []) (chip (resting d l) xs)) .answer .number ≡ 0
   unfolding moded
-  rested-number = ap (λ (c : Chip). told (rest d) c .answer .number) two-are ∙ going-waits .0
+  rested-number = ap (λ (c : Chip). reply (rest d) c .answer .number) two-are ∙ going-waits .0
 
   -- call 4
-  pub disabled-number : told (disable j) (run (enable j ∷ carry j ∷ rest (resting d l) ∷ []) (chip (resting d l) xs)) .answer .number ≡ 0
-  disabled-number = ap (λ (c : Chip). told (disable j) c .answer .number) three-are ∙ wrdi-number d s ys length-same (going-waits .1 .0) (j .w₃)
+  pub disabled-number : reply (disable j) (run (enable j ∷ carry j ∷ rest (resting d l) ∷ []) (chip (resting d l) xs)) .answer .number ≡ 0
+  disabled-number = ap (λ (c : Chip). reply (disable j) c .answer .number) three-are ∙ wrdi-number d s ys length-same (going-waits .1 .0) (j .w₃)
 
   -- a job leaves the record in standby with the latch reset, and touches each byte once
   pub after-is : afterJob j (chip (resting d l) xs) ≡ chip (resting d false) ys

@@ -10,7 +10,7 @@ use Rattle.parts.specs.declared.Figures.{Figures}
 use Rattle.device.specs.declared.Mode.the-variants.{Standby}
 use Rattle.device.specs.declared.Device.{Device}
 use Rattle.chip.specs.Table.{longest, addressOf}
-use Rattle.chip.specs.Events.{Chip, Good, Event, sends, waits, after, told, run}
+use Rattle.chip.specs.Events.{Chip, Good, Event, sends, waits, after, reply, run}
 
 -- ---- a job and its four calls
 
@@ -52,7 +52,7 @@ afterJob j c = run (callsOf (c .device) j) c
 
 -- the answer number that the job's program or erase gets
 abbrev pub answered : Job → Chip → ℕ
-answered j c = told (carry j) (after (enable j) c) .answer .number
+answered j c = reply (carry j) (after (enable j) c) .answer .number
 
 -- ---- a list of jobs
 
@@ -128,10 +128,10 @@ ExecutedOr15Or17 k = (k ≡ 0) ⊎ ((k ≡ 15) ⊎ (k ≡ 17))
 
 -- no host-side number answers any of the four calls
 pub record Answers (j : Job) (c : Chip) : Type 0 where
-  pub enabled : told (enable j) c .answer .number ≡ 0
+  pub enabled : reply (enable j) c .answer .number ≡ 0
   pub carried : ExecutedOr15Or17 (answered j c)
-  pub rested : told (rest (c .device)) (run (enable j ∷ carry j ∷ []) c) .answer .number ≡ 0
-  pub disabled : told (disable j) (run (enable j ∷ carry j ∷ rest (c .device) ∷ []) c) .answer .number ≡ 0
+  pub rested : reply (rest (c .device)) (run (enable j ∷ carry j ∷ []) c) .answer .number ≡ 0
+  pub disabled : reply (disable j) (run (enable j ∷ carry j ∷ rest (c .device) ∷ []) c) .answer .number ≡ 0
 
 -- so for every job of a run
 abbrev pub AllAnswer : List Job → Chip → Type 0
