@@ -9,7 +9,7 @@ use lib.ListN.{length, getD, replicate, length-replicate}
 use Rattle.slices.specs.Changed.{mapAt, window, sumAt}
 use Rattle.memory.specs.Memory as memory-is
 use Rattle.parts.specs.Parts.{figuresOf}
-use Rattle.parts.specs.Protected.{protectedOf, columnOf, byRule}
+use Rattle.parts.specs.Protected.{protectedOf}
 use Rattle.device.specs.Device.{waitCall, powerUpCall, soundAnswer, waited, poweredUp, sound, statusByte, moded, latched, settled, running, latchAt}
 use Rattle.chip.specs.Table.{rowOf, addressOf}
 use Rattle.chip.specs.Answers.{hostNumber, inProtected, asNeeded, chipNumber, decided, verdictOf}
@@ -69,7 +69,7 @@ all-at (k ∷ ks) =
     ap₂ _&&_ (sees-at (k .steps) (figuresOf (k .device .part) .bytes) (fresh (k .device)) (length-replicate (figuresOf (k .device .part) .bytes) 0xFF)) (all-at ks)
 
 computed : T (allAt cases) × T (allAt further)
-unfolding allAt cases further seesAt mapAt window sumAt memory-is.blank memory-is.filled memory-is.programmed memory-is.erased figuresOf protectedOf columnOf byRule waitCall powerUpCall soundAnswer waited poweredUp sound statusByte moded latched settled running latchAt rowOf addressOf hostNumber inProtected asNeeded chipNumber decided verdictOf byRow heard heardRow driven lined drivingAt firstOf countOf noSlots cycleOf touched changed bpIn turned outcomeOf
+unfolding allAt cases further seesAt mapAt window sumAt memory-is.blank memory-is.filled memory-is.programmed memory-is.erased figuresOf protectedOf waitCall powerUpCall soundAnswer waited poweredUp sound statusByte moded latched settled running latchAt rowOf addressOf hostNumber inProtected asNeeded chipNumber decided verdictOf byRow heard heardRow driven lined drivingAt firstOf countOf noSlots cycleOf touched changed bpIn turned outcomeOf
 computed = (tt, tt)
 
 -- K1 to K15 hold

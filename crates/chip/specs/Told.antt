@@ -8,7 +8,7 @@ use lib.ListN.{length, getD}
 use Rattle.slices.specs.Changed.{mapAt, put}
 use Rattle.slices.specs.Chosen.{onZero}
 use Rattle.parts.specs.Parts.{figuresOf}
-use Rattle.parts.specs.Protected.{protectedOf, columnOf, byRule}
+use Rattle.parts.specs.Protected.{protectedOf}
 use Rattle.device.specs.declared.Mode.the-variants.{Standby, Busy, Deep}
 use Rattle.device.specs.declared.Device.{Device}
 use Rattle.device.specs.Device.{sound, latchAt, zeroRecord, delivered}
@@ -244,7 +244,7 @@ pub record Chip : Type 0 where
 
 -- computed by the checker
 pub chip : Chip
-unfolding hostNumber sound latchAt figuresOf inProtected asNeeded chipNumber decided verdictOf rowOf addressOf protectedOf columnOf byRule
+unfolding hostNumber sound latchAt figuresOf inProtected asNeeded chipNumber decided verdictOf rowOf addressOf protectedOf
 chip = record {
   ready = refl;
   ready-m25p10a = refl;

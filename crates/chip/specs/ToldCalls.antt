@@ -7,7 +7,7 @@ use lib.ListN.{replicate}
 use Rattle.slices.specs.Changed.{mapAt, window, sumAt}
 use Rattle.memory.specs.Memory as memory-is
 use Rattle.parts.specs.Parts.{figuresOf}
-use Rattle.parts.specs.Protected.{protectedOf, columnOf, byRule}
+use Rattle.parts.specs.Protected.{protectedOf}
 use Rattle.device.specs.declared.Mode.the-variants.{Deep}
 use Rattle.device.specs.declared.Device.{Device}
 use Rattle.device.specs.Device.{waitCall, powerUpCall, soundAnswer, waited, poweredUp, sound, statusByte, moded, latched, settled, running, latchAt}
@@ -85,7 +85,7 @@ pub record Calls : Type 0 where
 
 -- computed by the checker
 pub calls : Calls
-unfolding sees sent mapAt window sumAt memory-is.blank memory-is.filled memory-is.programmed memory-is.erased figuresOf protectedOf columnOf byRule waitCall powerUpCall soundAnswer waited poweredUp sound statusByte moded latched settled running latchAt rowOf addressOf hostNumber inProtected asNeeded chipNumber decided verdictOf byRow heard heardRow driven lined drivingAt firstOf countOf noSlots cycleOf touched changed bpIn turned outcomeOf transacted
+unfolding sees sent mapAt window sumAt memory-is.blank memory-is.filled memory-is.programmed memory-is.erased figuresOf protectedOf waitCall powerUpCall soundAnswer waited poweredUp sound statusByte moded latched settled running latchAt rowOf addressOf hostNumber inProtected asNeeded chipNumber decided verdictOf byRow heard heardRow driven lined drivingAt firstOf countOf noSlots cycleOf touched changed bpIn turned outcomeOf transacted
 calls = record {
   wren = refl;
   wrdi = refl;

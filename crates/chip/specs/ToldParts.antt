@@ -7,7 +7,7 @@ use lib.ListN.{length, getD, take, replicate}
 use Rattle.slices.specs.Changed.{mapAt, window, sumAt}
 use Rattle.memory.specs.Memory as memory-is
 use Rattle.parts.specs.Parts.{figuresOf}
-use Rattle.parts.specs.Protected.{protectedOf, columnOf, byRule}
+use Rattle.parts.specs.Protected.{protectedOf}
 use Rattle.device.specs.declared.Mode.the-variants.{Standby, Busy, Deep}
 use Rattle.device.specs.declared.Device.{Device}
 use Rattle.device.specs.Device.{sound, statusByte, moded, latched, settled, running, latchAt}
@@ -149,7 +149,7 @@ pub record Turns : Type 0 where
 
 -- computed by the checker
 pub turns : Turns
-unfolding mapAt window sumAt memory-is.blank memory-is.filled memory-is.programmed memory-is.erased figuresOf protectedOf columnOf byRule sound statusByte moded latched settled running latchAt rowOf addressOf hostNumber inProtected asNeeded chipNumber decided verdictOf byRow heard heardRow driven lined drivingAt firstOf countOf noSlots cycleOf touched changed bpIn turned outcomeOf
+unfolding mapAt window sumAt memory-is.blank memory-is.filled memory-is.programmed memory-is.erased figuresOf protectedOf sound statusByte moded latched settled running latchAt rowOf addressOf hostNumber inProtected asNeeded chipNumber decided verdictOf byRow heard heardRow driven lined drivingAt firstOf countOf noSlots cycleOf touched changed bpIn turned outcomeOf
 turns = record {
   sets-bench = refl;
   sets-m25p10a = refl;
@@ -260,7 +260,7 @@ pub record Places : Type 0 where
 
 -- computed by the checker
 pub places : Places
-unfolding memory-is.blank memory-is.filled memory-is.programmed memory-is.erased figuresOf protectedOf columnOf byRule sound latchAt rowOf addressOf hostNumber inProtected asNeeded chipNumber decided verdictOf noSlots cycleOf touched changed
+unfolding memory-is.blank memory-is.filled memory-is.programmed memory-is.erased figuresOf protectedOf sound latchAt rowOf addressOf hostNumber inProtected asNeeded chipNumber decided verdictOf noSlots cycleOf touched changed
 places = record {
   edges-bench = refl;
   edges-m25p10a = refl;

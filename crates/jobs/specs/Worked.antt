@@ -10,7 +10,7 @@ use Rattle.slices.specs.Changed.{mapAt}
 use Rattle.memory.specs.Memory.{blank, reached, landed, programmed, erased}
 use Rattle.memory.specs.Memory as memory
 use Rattle.parts.specs.Parts.{figuresOf}
-use Rattle.parts.specs.Protected.{protectedOf, columnOf, byRule}
+use Rattle.parts.specs.Protected.{protectedOf}
 use Rattle.device.specs.declared.Mode.the-variants.{Standby, Busy}
 use Rattle.device.specs.declared.Device.{Device}
 use Rattle.device.specs.declared.Checked.{Checked}
@@ -107,7 +107,7 @@ pub record Shown : Type 0 where
 
 -- computed by the checker
 pub shown : Shown
-unfolding sent transacted outcomeOf verdictOf decided hostNumber chipNumber rowOf addressOf asNeeded inProtected protectedOf columnOf byRule cycleOf touched changed turned running moded latched waited waitCall soundAnswer sound latchAt figuresOf mapAt programmed erased blank memory.filled reached landed
+unfolding sent transacted outcomeOf verdictOf decided hostNumber chipNumber rowOf addressOf asNeeded inProtected protectedOf cycleOf touched changed turned running moded latched waited waitCall soundAnswer sound latchAt figuresOf mapAt programmed erased blank memory.filled reached landed
 shown =
     record { erase-last = refl; erase-first = refl; answers = refl; anded = refl; protects = refl; erases = refl; keeps = refl; anew = refl; later = refl; formula = refl; formula-first = refl }
 
@@ -158,7 +158,7 @@ pub record Waits : Type 0 where
 
 -- computed by the checker
 pub waits : Waits
-unfolding sent transacted outcomeOf verdictOf decided hostNumber chipNumber rowOf addressOf asNeeded inProtected protectedOf columnOf byRule cycleOf touched changed turned running moded latched waited waitCall soundAnswer sound latchAt figuresOf mapAt programmed erased blank memory.filled reached landed settled bpIn
+unfolding sent transacted outcomeOf verdictOf decided hostNumber chipNumber rowOf addressOf asNeeded inProtected protectedOf cycleOf touched changed turned running moded latched waited waitCall soundAnswer sound latchAt figuresOf mapAt programmed erased blank memory.filled reached landed settled bpIn
 waits = record {
   program = refl;
   sector = refl;

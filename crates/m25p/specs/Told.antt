@@ -6,7 +6,7 @@ use Prim.Native.Nat.{ℕ}
 use lib.ListN.{replicate}
 use Rattle.slices.specs.Changed.{mapAt, window, sumAt}
 use Rattle.parts.specs.Parts.{figuresOf}
-use Rattle.parts.specs.Protected.{protectedOf, columnOf, byRule}
+use Rattle.parts.specs.Protected.{protectedOf}
 use Rattle.device.specs.declared.Device.{Device}
 use Rattle.device.specs.Device.{sound, latchAt, moded, latched, settled, running, waited, poweredUp, soundAnswer, waitCall, powerUpCall, zeroRecord, statusByte, delivered}
 use Rattle.device.specs.Packing.{packOf, fieldsOf, formed, unpackAnswer, unpackOf}
@@ -74,7 +74,7 @@ pub record Told : Type 0 where
 
 -- computed by the checker
 pub told : Told
-unfolding mapAt window sumAt figuresOf protectedOf columnOf byRule sound latchAt moded latched settled running waited poweredUp soundAnswer waitCall powerUpCall zeroRecord statusByte delivered packOf fieldsOf formed unpackAnswer unpackOf rowOf addressOf deliveryAnswer hostNumber inProtected asNeeded chipNumber decided verdictOf byRow heard heardRow driven lined drivingAt firstOf countOf noSlots cycleOf touched changed bpIn turned outcomeOf transacted packedAnswer transactedC checkedC deliveryC
+unfolding mapAt window sumAt figuresOf protectedOf sound latchAt moded latched settled running waited poweredUp soundAnswer waitCall powerUpCall zeroRecord statusByte delivered packOf fieldsOf formed unpackAnswer unpackOf rowOf addressOf deliveryAnswer hostNumber inProtected asNeeded chipNumber decided verdictOf byRow heard heardRow driven lined drivingAt firstOf countOf noSlots cycleOf touched changed bpIn turned outcomeOf transacted packedAnswer transactedC checkedC deliveryC
 told = record {
   bits = refl;
   nothing = refl;

@@ -1,16 +1,15 @@
--- What holds of every part's figures and of the protection table.
+-- What holds of every part's figures and of the rule of protected sectors.
 -- Assumes nothing.
-use mathlib.Core.Path.{_≡_, refl, sym, subst}
-use mathlib.Core.Bool.{Bool, true, false, cond}
-use mathlib.Core.List.{List, []}
-use Prim.Native.Nat.{ℕ, zero, suc, _*_, _%_, _≤_, _<_, _-_}
+use mathlib.Core.Path.{_≡_, refl, _∙_}
+use Prim.Native.Nat.{ℕ, _-_, _*_, _%_, _^_, _≤_, _<_, min}
+use native.Mathlib.Nat.{le-trans, le-of-lt, min-eq-left, one-mul}
 use native.Mathlib.Omega.{arith}
-use lib.Dec.{eqb, leb, lit<, lit≤}
-use lib.ListN.{getD}
-use borrow.Author.Tests.{eqb-true, ne-eqb, lt-leb}
+use lib.Dec.{eqb, lit<, lit≤}
+use lib.Pow.{pow-mono, shl-exact}
+use borrow.Author.Tests.{ne-eqb}
 use Rattle.slices.proofs.Choices.{cond-ind}
 use Rattle.parts.specs.Parts.{figuresOf, bench, m25p10a, m25p40, m25p32, m25p128}
-use Rattle.parts.specs.Protected.{protectedOf, columnOf, byRule, column4, column8, column64}
+use Rattle.parts.specs.Protected.{protectedOf}
 use Rattle.parts.specs.declared.Figures.{Figures}
 
 -- what holds of each part's figures holds of every number's
@@ -42,61 +41,23 @@ sane p =
     (record { some = lit< tt; few = lit≤ tt; bytes-paged = refl; sectors-some = lit< tt; sectors-few = lit≤ tt; sector-some = lit< tt; whole = refl; pages = 1024; paged = refl; bp-few = lit≤ tt })
     p
 
--- the table's cells are what the formula gives
-in4 : (bp : ℕ) → getD column4 bp (byRule 4 bp) ≡ byRule 4 bp
-unfolding byRule
-in4 zero = refl
-in4 (suc zero) = refl
-in4 (suc (suc zero)) = refl
-in4 (suc (suc (suc zero))) = refl
-in4 (suc (suc (suc (suc bp)))) = refl
+-- the rule, where BP is not 0
+rule : (n bp : ℕ) → ((bp ≡ 0) → ⊥) → protectedOf n bp ≡ min n (2 ^ (bp - 1))
+unfolding protectedOf
+rule n bp h = rw (ne-eqb bp 0 h)
 
-in8 : (bp : ℕ) → getD column8 bp (byRule 8 bp) ≡ byRule 8 bp
-unfolding byRule
-in8 zero = refl
-in8 (suc zero) = refl
-in8 (suc (suc zero)) = refl
-in8 (suc (suc (suc zero))) = refl
-in8 (suc (suc (suc (suc zero)))) = refl
-in8 (suc (suc (suc (suc (suc zero))))) = refl
-in8 (suc (suc (suc (suc (suc (suc zero)))))) = refl
-in8 (suc (suc (suc (suc (suc (suc (suc zero))))))) = refl
-in8 (suc (suc (suc (suc (suc (suc (suc (suc bp)))))))) = refl
+-- up to BP 64 the power is a machine number: no bit is shifted out
+pub shifted : (n bp : ℕ) → ((bp ≡ 0) → ⊥) → bp ≤ 64 → min n ((1 * 2 ^ (bp - 1)) % 2 ^ 64) ≡ protectedOf n bp
+shifted n bp h l = rw (rule n bp h, shl-exact 1 (bp - 1) 64 (lit< tt) (omega arith), one-mul (2 ^ (bp - 1)))
 
-in64 : (bp : ℕ) → getD column64 bp (byRule 64 bp) ≡ byRule 64 bp
-unfolding byRule
-in64 zero = refl
-in64 (suc zero) = refl
-in64 (suc (suc zero)) = refl
-in64 (suc (suc (suc zero))) = refl
-in64 (suc (suc (suc (suc zero)))) = refl
-in64 (suc (suc (suc (suc (suc zero))))) = refl
-in64 (suc (suc (suc (suc (suc (suc zero)))))) = refl
-in64 (suc (suc (suc (suc (suc (suc (suc zero))))))) = refl
-in64 (suc (suc (suc (suc (suc (suc (suc (suc bp)))))))) = refl
-
-in-column : (n bp k : ℕ) (l : List ℕ) → ((m : ℕ) → getD l m (byRule k m) ≡ byRule k m) → (b : Bool) → eqb n k ≡ b → (rest : List ℕ) → getD rest bp (byRule n bp) ≡ byRule n bp → getD (cond b l rest) bp (byRule n bp) ≡ byRule n bp
-in-column n bp k l h true e rest p = subst (λ (m : ℕ). getD l bp (byRule m bp) ≡ byRule m bp) (sym (eqb-true n k e)) (h bp)
-in-column n bp k l h false e rest p = p
-
--- the whole table is one formula
-pub table-is : (n bp : ℕ) → protectedOf n bp ≡ byRule n bp
-unfolding protectedOf columnOf
-table-is n bp =
-    in-column n bp 4 column4 in4 (eqb n 4) refl _
-    (in-column n bp 8 column8 in8 (eqb n 8) refl _ (in-column n bp 64 column64 in64 (eqb n 64) refl [] refl))
-
--- a number that is none of 0 to 7 is above 7, where every sector is protected
-pub above : (n bp : ℕ) → 7 < bp → protectedOf n bp ≡ n
-unfolding byRule
-above n bp h = rw (table-is, ne-eqb bp 0 (λ e. omega arith), lt-leb bp 7)
+-- above, it is more than one can be, so that every sector is protected
+pub above : (n bp : ℕ) → n < 2 ^ 64 → 64 < bp → protectedOf n bp ≡ n
+above n bp s h = rule n bp (λ e. omega arith) ∙ min-eq-left (le-trans (le-of-lt s) (pow-mono {i = 64} {j = bp - 1} (omega arith)))
 
 -- no more sectors are protected than there are
 pub protected-most : (n bp : ℕ) → protectedOf n bp ≤ n
-unfolding byRule
-protected-most n bp =
-    rw table-is
-    (cond-ind (λ (m : ℕ). m ≤ n) (eqb bp 0) (omega arith) (cond-ind (λ (m : ℕ). m ≤ n) (leb bp 7) (omega arith) (omega arith)))
+unfolding protectedOf
+protected-most n bp = cond-ind (λ (m : ℕ). m ≤ n) (eqb bp 0) (omega arith) (omega arith)
 
 -- so of every part
 pub protected-few : (p bp : ℕ) → protectedOf (figuresOf p .sectors) bp ≤ figuresOf p .sectors

@@ -1,21 +1,17 @@
--- Document 01's two tables told a second time, column by column, and computed: the five parts' figures, and the protected sectors.
+-- Document 01's table of the five parts told a second time, column by column, and computed; and the protected sectors where the paper's table (`Table`) has no cell.
 use mathlib.Core.Path.{_≡_, refl}
 use mathlib.Core.Bool.{true, false}
 use mathlib.Core.List.{List, [], _∷_, map}
 use Prim.Native.Nat.{ℕ}
 use Rattle.parts.specs.declared.Figures.{Figures}
 use Rattle.parts.specs.Parts.{knownPart, figuresOf}
-use Rattle.parts.specs.Protected.{columnOf, byRule, protectedOf}
+use Rattle.parts.specs.Protected.{protectedOf}
 
 -- a figure of each part: bench, M25P10-A, M25P40, M25P32, M25P128
 abbrev pub column : {A : Type 0} → (Figures → A) → List A
 column figure = map (λ (p : ℕ). figure (figuresOf p)) (0 ∷ 1 ∷ 2 ∷ 3 ∷ 4 ∷ [])
 
--- how many of so many sectors are protected, for BP 0 to 8
-abbrev pub protects : ℕ → List ℕ
-protects sectors = map (protectedOf sectors) (0 ∷ 1 ∷ 2 ∷ 3 ∷ 4 ∷ 5 ∷ 6 ∷ 7 ∷ 8 ∷ [])
-
--- what the tables say
+-- what the paper says
 pub record Told : Type 0 where
   -- 'The five parts'
   pub bytes : column (λ (f : Figures). f .bytes) ≡ 4096 ∷ 131072 ∷ 524288 ∷ 4194304 ∷ 16777216 ∷ []
@@ -31,16 +27,20 @@ pub record Told : Type 0 where
   -- parts are 0 to 4; another number has the bench part's figures
   pub known : map knownPart (0 ∷ 1 ∷ 2 ∷ 3 ∷ 4 ∷ 5 ∷ 255 ∷ 256 ∷ []) ≡ true ∷ true ∷ true ∷ true ∷ true ∷ false ∷ false ∷ false ∷ []
   pub none : figuresOf 5 ≡ figuresOf 0
-  -- 'Protected area', for BP 0 to 7, then 8; the column of 4 sectors has no cells from BP 4 on
-  pub four : protects 4 ≡ 0 ∷ 1 ∷ 2 ∷ 4 ∷ 4 ∷ 4 ∷ 4 ∷ 4 ∷ 4 ∷ []
-  pub eight : protects 8 ≡ 0 ∷ 1 ∷ 2 ∷ 4 ∷ 8 ∷ 8 ∷ 8 ∷ 8 ∷ 8 ∷ []
-  pub sixty-four : protects 64 ≡ 0 ∷ 1 ∷ 2 ∷ 4 ∷ 8 ∷ 16 ∷ 32 ∷ 64 ∷ 64 ∷ []
-  -- no part has 100 sectors: doubled with each BP, and all of them above BP 7
-  pub hundred : protects 100 ≡ 0 ∷ 1 ∷ 2 ∷ 4 ∷ 8 ∷ 16 ∷ 32 ∷ 64 ∷ 100 ∷ []
+  -- 'Protected area', where no sound record comes: 4 sectors with BP above 3
+  pub four : map (protectedOf 4) (4 ∷ 5 ∷ 6 ∷ 7 ∷ 8 ∷ 255 ∷ []) ≡ 4 ∷ 4 ∷ 4 ∷ 4 ∷ 4 ∷ 4 ∷ []
+  -- BP above 7
+  pub eight : map (protectedOf 8) (8 ∷ 255 ∷ []) ≡ 8 ∷ 8 ∷ []
+  pub sixty-four : map (protectedOf 64) (8 ∷ 255 ∷ []) ≡ 64 ∷ 64 ∷ []
+  -- sector counts that no part has: none, one, one that is no power of two, and the most that the code's numbers hold
+  pub none-at-all : map (protectedOf 0) (0 ∷ 1 ∷ 255 ∷ []) ≡ 0 ∷ 0 ∷ 0 ∷ []
+  pub single : map (protectedOf 1) (0 ∷ 1 ∷ 2 ∷ 255 ∷ []) ≡ 0 ∷ 1 ∷ 1 ∷ 1 ∷ []
+  pub thousand : map (protectedOf 1000) (0 ∷ 1 ∷ 2 ∷ 7 ∷ 8 ∷ 9 ∷ 10 ∷ 11 ∷ 255 ∷ []) ≡ 0 ∷ 1 ∷ 2 ∷ 64 ∷ 128 ∷ 256 ∷ 512 ∷ 1000 ∷ 1000 ∷ []
+  pub most : map (protectedOf 18446744073709551615) (63 ∷ 64 ∷ 65 ∷ 255 ∷ []) ≡ 4611686018427387904 ∷ 9223372036854775808 ∷ 18446744073709551615 ∷ 18446744073709551615 ∷ []
 
 -- computed by the checker
 pub told : Told
-unfolding figuresOf columnOf byRule protectedOf
+unfolding figuresOf protectedOf
 told = record {
   bytes = refl;
   sectors = refl;
@@ -56,5 +56,8 @@ told = record {
   four = refl;
   eight = refl;
   sixty-four = refl;
-  hundred = refl;
+  none-at-all = refl;
+  single = refl;
+  thousand = refl;
+  most = refl;
 }

@@ -238,19 +238,15 @@ pub fn known(part: u8) -> bool
     part <= 4
 }
 
-// How many of the highest sectors are protected.
+// How many of the highest sectors are protected. From BP 65 on the power is more than any number of sectors.
 pub fn protected(sectors: usize, bp: u8) -> usize
     ensures { λ r. ⌜ r ≡ protectedOf sectors bp ⌝ }
 {
-    match bp {
-        0 => 0,
-        1 => slices::least(sectors, 1),
-        2 => slices::least(sectors, 2),
-        3 => slices::least(sectors, 4),
-        4 => slices::least(sectors, 8),
-        5 => slices::least(sectors, 16),
-        6 => slices::least(sectors, 32),
-        7 => slices::least(sectors, 64),
-        _ => sectors,
+    if bp == 0 {
+        0
+    } else if bp <= 64 {
+        slices::least(sectors, 1 << (bp as usize - 1))
+    } else {
+        sectors
     }
 }

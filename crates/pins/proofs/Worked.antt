@@ -14,7 +14,7 @@ use Rattle.slices.proofs.Maps.{map-is}
 use Rattle.slices.proofs.Windows.{window-in, window-above}
 use Rattle.memory.specs.Memory as memory-is
 use Rattle.parts.specs.Parts.{figuresOf}
-use Rattle.parts.specs.Protected.{protectedOf, columnOf, byRule}
+use Rattle.parts.specs.Protected.{protectedOf}
 use Rattle.device.specs.declared.Device.{Device}
 use Rattle.device.specs.declared.Checked.{Checked}
 use Rattle.device.specs.Device.{sound, onZero, statusByte, moded, latched, settled, running, latchAt}
@@ -171,7 +171,7 @@ allCompute [] = true
 allCompute (k ∷ ks) = computes k && allCompute ks
 
 computed : T (allCompute cases)
-unfolding allCompute computes cases shownFrom chipFrom mapAt window sumAt memory-is.blank memory-is.filled memory-is.programmed memory-is.erased figuresOf protectedOf columnOf byRule sound statusByte moded latched settled running latchAt rowOf addressOf hostNumber inProtected asNeeded chipNumber decided verdictOf byRow heard heardRow driven noSlots cycleOf touched changed bpIn turned outcomeOf levelsOf rest onSelect onClock onHold nextPins changes ends takes moves anew shifted bitTaken movedOn clocked nextTaking nextFound atRest step seen tooLong oddSamples outputOf runAnswer
+unfolding allCompute computes cases shownFrom chipFrom mapAt window sumAt memory-is.blank memory-is.filled memory-is.programmed memory-is.erased figuresOf protectedOf sound statusByte moded latched settled running latchAt rowOf addressOf hostNumber inProtected asNeeded chipNumber decided verdictOf byRow heard heardRow driven noSlots cycleOf touched changed bpIn turned outcomeOf levelsOf rest onSelect onClock onHold nextPins changes ends takes moves anew shifted bitTaken movedOn clocked nextTaking nextFound atRest step seen tooLong oddSamples outputOf runAnswer
 computed = tt
 
 -- what the promise admits at a case is what was computed
