@@ -58,7 +58,3 @@ above n bp s h = rule n bp (λ e. omega arith) ∙ min-eq-left (le-trans (le-of-
 pub protected-most : (n bp : ℕ) → protectedOf n bp ≤ n
 unfolding protectedOf
 protected-most n bp = cond-ind (λ (m : ℕ). m ≤ n) (eqb bp 0) (omega arith) (omega arith)
-
--- so of every part
-pub protected-few : (p bp : ℕ) → protectedOf (figuresOf p .sectors) bp ≤ figuresOf p .sectors
-protected-few p bp = protected-most (figuresOf p .sectors) bp
