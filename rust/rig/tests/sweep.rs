@@ -1,7 +1,8 @@
-//! libm25p.a against the model on whole ranges: every first byte in every state, and every length.
+//! libm25p.a against the model on whole ranges: every first byte in every state, every length, and every
+//! sector under every BP.
 
 use rig::compare::{Call, Filled, Pair, Step, Tally, PAPER, SPARE};
-use rig::model::{Mode, Record, CODES, PARTS, RECORD_BYTES};
+use rig::model::{Mode, Record, CODES, PARTS, PP, RECORD_BYTES, SE};
 use rig::rng::Rng;
 
 /// Records of the part that differ in what the chip looks at.
@@ -43,6 +44,12 @@ impl Sweep {
         if n > 0 {
             sent[0] = code;
         }
+        self.send(from, sent, pulses, w);
+    }
+
+    /// A transaction of these bytes, from the given record.
+    fn send(&mut self, from: Record, sent: Vec<u8>, pulses: u32, w: u32) {
+        let n = sent.len();
         let filled = vec![Filled { bytes: self.rng.bytes(n + SPARE), len: n }];
         let call = Call::Transact { sent, pulses, w };
         let (record_len, array_len) = (RECORD_BYTES, PARTS[from.part as usize].bytes);
@@ -83,5 +90,33 @@ fn every_length() {
             }
         }
         sweep.pair.compare_array().unwrap();
+    }
+}
+
+/// A code, a 24-bit address and data.
+fn addressed(code: u8, address: usize, data: &[u8]) -> Vec<u8> {
+    let mut sent = vec![code, (address >> 16) as u8, (address >> 8) as u8, address as u8];
+    sent.extend(data);
+    sent
+}
+
+#[test]
+fn every_sector_under_every_bp() {
+    // the sums of the paper's columns: 4, 4, 8, 64 and 64 sectors
+    let protected_in_all = [7, 7, 39, 127, 127];
+    for part in 0..5 {
+        let mut sweep = Sweep::new(part);
+        let figures = &PARTS[part as usize];
+        for bp in 0..=figures.highest_bp {
+            let from = Record { bp, ..states(part)[0] };
+            for first in (0..figures.bytes).step_by(figures.sector_bytes) {
+                let last = first + figures.sector_bytes - 1;
+                sweep.send(from, addressed(SE, last, &[]), 0, 1);
+                sweep.send(from, addressed(PP, first, &[0xA5]), 0, 1);
+                sweep.send(from, addressed(PP, last, &[0x5A]), 0, 1);
+            }
+        }
+        sweep.pair.compare_array().unwrap();
+        assert_eq!(sweep.tally.answers[17], 3 * protected_in_all[part as usize]);
     }
 }
