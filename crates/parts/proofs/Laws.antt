@@ -50,7 +50,7 @@ rule n bp h = rw (ne-eqb bp 0 h)
 pub shifted : (n bp : ℕ) → ((bp ≡ 0) → ⊥) → bp ≤ 64 → min n ((1 * 2 ^ (bp - 1)) % 2 ^ 64) ≡ protectedOf n bp
 shifted n bp h l = rw (rule n bp h, shl-exact 1 (bp - 1) 64 (lit< tt) (omega arith), one-mul (2 ^ (bp - 1)))
 
--- above, it is more than one can be, so that every sector is protected
+-- from BP 65 on the power is more than any machine number, so that every sector is protected
 pub above : (n bp : ℕ) → n < 2 ^ 64 → 64 < bp → protectedOf n bp ≡ n
 above n bp s h = rule n bp (λ e. omega arith) ∙ min-eq-left (le-trans (le-of-lt s) (pow-mono {i = 64} {j = bp - 1} (omega arith)))
 

@@ -1,4 +1,4 @@
--- Document 01's table of protected sectors as the paper prints it; the rule fills each of its cells alike.
+-- Document 01's table of protected sectors as the paper prints it; each of its cells is what the rule gives.
 use mathlib.Core.Path.{_≡_, refl}
 use mathlib.Core.List.{List, [], _∷_, map}
 use Prim.Native.Nat.{ℕ}

@@ -11,7 +11,7 @@ use Rattle.parts.specs.Protected.{protectedOf}
 abbrev pub column : {A : Type 0} → (Figures → A) → List A
 column figure = map (λ (p : ℕ). figure (figuresOf p)) (0 ∷ 1 ∷ 2 ∷ 3 ∷ 4 ∷ [])
 
--- what the paper says
+-- what the table of parts says, and what the rule gives where the other table has no cell
 pub record Told : Type 0 where
   -- 'The five parts'
   pub bytes : column (λ (f : Figures). f .bytes) ≡ 4096 ∷ 131072 ∷ 524288 ∷ 4194304 ∷ 16777216 ∷ []
