@@ -10,7 +10,7 @@ use crate::model::*;
 
 /// Pairs each fault with its name.
 macro_rules! named {
-    ($($fault:ident),* $(,)?) => { &[$((stringify!($fault), &$fault)),*] };
+    ($($fault:expr),* $(,)?) => { &[$((stringify!($fault), &$fault)),*] };
 }
 use named;
 
@@ -18,15 +18,15 @@ use named;
 pub const CHIP: &[(&str, &dyn Model)] = named![
     AndDataIntoSlots,
     RunOnPage,
-    LatchLostWhenIgnored,
+    Afterwards(latch_lost_when_ignored),
     FrozenOnWLowAlone,
     WLowStopsProgram,
     BulkErasesUnprotectedOnly,
     StoresOverOldBytes,
     ReadStopsAtTheEnd,
     AddressNotReduced,
-    ResponseBeyondN,
-    RefusalWritesResponse,
+    Afterwards(response_beyond_n),
+    Afterwards(refusal_writes_response),
     CountsEveryByte,
     PulsesCutToAByte,
     WCutToAByte,
@@ -34,8 +34,10 @@ pub const CHIP: &[(&str, &dyn Model)] = named![
     DeepResetsLatch,
     LastTickMissed,
     LatchKeptAfterCycle,
-    ProtectionBeforeLatch,
-    BusyBeforeUnknown,
+    // protection is looked at before the latch
+    LooksInOrder([11, 14, 12, 13, 15, 17, 16, 18]),
+    // busy is looked at before unknown codes
+    LooksInOrder([11, 12, 14, 13, 15, 16, 17, 18]),
     ZeroBytesUnchecked,
     DurationBeforeLength,
     PowerUpKeepsDeep,
@@ -68,10 +70,10 @@ impl Model for RunOnPage {
     }
 }
 
-/// An ignored instruction resets the latch.
-struct LatchLostWhenIgnored;
+/// A transaction of the paper, and then something more.
+struct Afterwards(fn(&Outcome, &mut [u8], Transaction, &mut [u8]));
 
-impl Model for LatchLostWhenIgnored {
+impl Model for Afterwards {
     fn transact(
         &self,
         record: &mut [u8],
@@ -80,10 +82,29 @@ impl Model for LatchLostWhenIgnored {
         response: &mut [u8],
     ) -> Outcome {
         let outcome = Paper.transact(record, array, t, response);
-        if outcome.answer > 8 {
-            amend(record, |r| r.latch = false);
-        }
+        self.0(&outcome, record, t, response);
         outcome
+    }
+}
+
+/// An ignored instruction resets the latch.
+fn latch_lost_when_ignored(outcome: &Outcome, record: &mut [u8], _: Transaction, _: &mut [u8]) {
+    if outcome.answer > 8 {
+        amend(record, |r| r.latch = false);
+    }
+}
+
+/// The response is filled with FF behind n, too.
+fn response_beyond_n(outcome: &Outcome, _: &mut [u8], t: Transaction, response: &mut [u8]) {
+    if outcome.answer == 0 || outcome.answer > 8 {
+        response[t.sent.len()..].fill(0xFF);
+    }
+}
+
+/// A refusal of the host side fills the response with FF.
+fn refusal_writes_response(outcome: &Outcome, _: &mut [u8], _: Transaction, response: &mut [u8]) {
+    if (1..=8).contains(&outcome.answer) {
+        response.fill(0xFF);
     }
 }
 
@@ -147,44 +168,6 @@ impl Model for AddressNotReduced {
             PP | SE => in_protected_sector(r, full_address(t.sent)),
             _ => Paper.protected(r, t),
         }
-    }
-}
-
-/// The response is filled with FF behind n, too.
-struct ResponseBeyondN;
-
-impl Model for ResponseBeyondN {
-    fn transact(
-        &self,
-        record: &mut [u8],
-        array: &mut [u8],
-        t: Transaction,
-        response: &mut [u8],
-    ) -> Outcome {
-        let outcome = Paper.transact(record, array, t, response);
-        if outcome.answer == 0 || outcome.answer > 8 {
-            response[t.sent.len()..].fill(0xFF);
-        }
-        outcome
-    }
-}
-
-/// A refusal of the host side fills the response with FF.
-struct RefusalWritesResponse;
-
-impl Model for RefusalWritesResponse {
-    fn transact(
-        &self,
-        record: &mut [u8],
-        array: &mut [u8],
-        t: Transaction,
-        response: &mut [u8],
-    ) -> Outcome {
-        let outcome = Paper.transact(record, array, t, response);
-        if (1..=8).contains(&outcome.answer) {
-            response.fill(0xFF);
-        }
-        outcome
     }
 }
 
@@ -270,21 +253,12 @@ impl Model for LatchKeptAfterCycle {
     }
 }
 
-/// Protection is looked at before the latch.
-struct ProtectionBeforeLatch;
+/// The chip's numbers are looked at in another order.
+struct LooksInOrder([u8; 8]);
 
-impl Model for ProtectionBeforeLatch {
+impl Model for LooksInOrder {
     fn chip_numbers(&self) -> [u8; 8] {
-        [11, 14, 12, 13, 15, 17, 16, 18]
-    }
-}
-
-/// Busy is looked at before unknown codes.
-struct BusyBeforeUnknown;
-
-impl Model for BusyBeforeUnknown {
-    fn chip_numbers(&self) -> [u8; 8] {
-        [11, 12, 14, 13, 15, 16, 17, 18]
+        self.0
     }
 }
 

@@ -35,19 +35,22 @@ pub const SHORT: &[(&str, &dyn PinsModel)] = named![
     PulsesDropped,
     UnfinishedCarriedOut,
     TicksPass,
-    TellsIgnored,
-    OutputBeyondSamples,
-    RefusalWritesOutput,
+    Afterwards(tells_ignored),
+    Afterwards(output_beyond_samples),
+    Afterwards(refusal_writes_output),
     BitSevenAllowed,
-    BitsBeforeArray,
-    ShortOutputFirst,
+    // 21 is given before 2
+    RefusesInOrder([8, 6, 21, 2, 22, 23]),
+    // 23 is given before 21
+    RefusesInOrder([8, 6, 2, 23, 21, 22]),
 ];
 
 /// Those that only runs with a transaction of about 65,536 bytes show.
 pub const LONG: &[(&str, &dyn PinsModel)] = named![
-    LengthBeforeBits,
-    ThrownAwayNotCounted,
-    UnfinishedNotCounted,
+    // 22 is given before 21
+    RefusesInOrder([8, 6, 2, 22, 21, 23]),
+    NotCounted(End::ThrownAway),
+    NotCounted(End::Unfinished),
     PulsesCountAsByte,
     LongestRefused,
 ];
@@ -63,10 +66,8 @@ as_the_paper![PinsModel: UndoneFallCounts, UndoneRiseCounts, WaitingStartThrows,
 as_the_paper![PinsModel: HoldCarriesOut, TakesInHold, HoldDropsBits, WaitingStartKeepsBit];
 as_the_paper![PinsModel: DrivesInHold, SilentAfterHold, MovesOnRise, OneFallLate];
 as_the_paper![Walking: ShowsLowBitFirst, OutputKeptAtSelect, UnfinishedByteSilent, ShowsTheFirstRecord];
-as_the_paper![Walking: PulsesDropped, UnfinishedCarriedOut, TicksPass, TellsIgnored, OutputBeyondSamples];
-as_the_paper![Walking: RefusalWritesOutput, BitSevenAllowed, BitsBeforeArray, ShortOutputFirst];
-as_the_paper![Walking: LengthBeforeBits, ThrownAwayNotCounted, UnfinishedNotCounted];
-as_the_paper![Walking: PulsesCountAsByte, LongestRefused];
+as_the_paper![Walking: PulsesDropped, UnfinishedCarriedOut, TicksPass, Afterwards, BitSevenAllowed];
+as_the_paper![Walking: RefusesInOrder, NotCounted, PulsesCountAsByte, LongestRefused];
 
 /// Bytes are shown with their lowest bit first.
 struct ShowsLowBitFirst;
@@ -161,10 +162,10 @@ impl PinsModel for TicksPass {
     }
 }
 
-/// A number of the chip, 11 to 18, is the answer of the run.
-struct TellsIgnored;
+/// A run of the paper, and then something more.
+struct Afterwards(fn(&mut Outcome, &[u8], &mut [u8]));
 
-impl PinsModel for TellsIgnored {
+impl PinsModel for Afterwards {
     fn run(
         &self,
         record: &mut [u8],
@@ -173,47 +174,28 @@ impl PinsModel for TellsIgnored {
         output: &mut [u8],
     ) -> Outcome {
         let mut outcome = Paper.run(record, array, samples, output);
-        let told = outcome.chip.iter().copied().find(|number| *number != 0);
-        outcome.answer = told.unwrap_or(outcome.answer);
+        self.0(&mut outcome, samples, output);
         outcome
     }
 }
 
-/// The output is written behind the samples, too.
-struct OutputBeyondSamples;
+/// A number of the chip, 11 to 18, is the answer of the run.
+fn tells_ignored(outcome: &mut Outcome, _: &[u8], _: &mut [u8]) {
+    let told = outcome.chip.iter().copied().find(|number| *number != 0);
+    outcome.answer = told.unwrap_or(outcome.answer);
+}
 
-impl PinsModel for OutputBeyondSamples {
-    fn run(
-        &self,
-        record: &mut [u8],
-        array: &mut [u8],
-        samples: &[u8],
-        output: &mut [u8],
-    ) -> Outcome {
-        let outcome = Paper.run(record, array, samples, output);
-        if outcome.answer == 0 {
-            output[samples.len()..].fill(NOT_DRIVEN);
-        }
-        outcome
+/// The output is written behind the samples, too.
+fn output_beyond_samples(outcome: &mut Outcome, samples: &[u8], output: &mut [u8]) {
+    if outcome.answer == 0 {
+        output[samples.len()..].fill(NOT_DRIVEN);
     }
 }
 
 /// A refusal writes the output.
-struct RefusalWritesOutput;
-
-impl PinsModel for RefusalWritesOutput {
-    fn run(
-        &self,
-        record: &mut [u8],
-        array: &mut [u8],
-        samples: &[u8],
-        output: &mut [u8],
-    ) -> Outcome {
-        let outcome = Paper.run(record, array, samples, output);
-        if outcome.answer != 0 {
-            output.fill(NOT_DRIVEN);
-        }
-        outcome
+fn refusal_writes_output(outcome: &mut Outcome, _: &[u8], output: &mut [u8]) {
+    if outcome.answer != 0 {
+        output.fill(NOT_DRIVEN);
     }
 }
 
@@ -226,51 +208,21 @@ impl PinsModel for BitSevenAllowed {
     }
 }
 
-/// 21 is given before 2.
-struct BitsBeforeArray;
+/// The refusals are looked at in another order.
+struct RefusesInOrder([u8; 6]);
 
-impl PinsModel for BitsBeforeArray {
+impl PinsModel for RefusesInOrder {
     fn refusals(&self) -> [u8; 6] {
-        [8, 6, 21, 2, 22, 23]
+        self.0
     }
 }
 
-/// 23 is given before 21.
-struct ShortOutputFirst;
+/// 22 does not count the transactions that end so.
+struct NotCounted(End);
 
-impl PinsModel for ShortOutputFirst {
-    fn refusals(&self) -> [u8; 6] {
-        [8, 6, 2, 23, 21, 22]
-    }
-}
-
-/// 22 is given before 21.
-struct LengthBeforeBits;
-
-impl PinsModel for LengthBeforeBits {
-    fn refusals(&self) -> [u8; 6] {
-        [8, 6, 2, 22, 21, 23]
-    }
-}
-
-/// 22 does not count transactions thrown away.
-struct ThrownAwayNotCounted;
-
-impl PinsModel for ThrownAwayNotCounted {
+impl PinsModel for NotCounted {
     fn whole_bytes(&self, found: &Found) -> usize {
-        if found.end == End::ThrownAway {
-            return 0;
-        }
-        Paper.whole_bytes(found)
-    }
-}
-
-/// 22 does not count an unfinished transaction.
-struct UnfinishedNotCounted;
-
-impl PinsModel for UnfinishedNotCounted {
-    fn whole_bytes(&self, found: &Found) -> usize {
-        if found.end == End::Unfinished {
+        if found.end == self.0 {
             return 0;
         }
         Paper.whole_bytes(found)
