@@ -6,6 +6,3 @@ pub mod Change
 pub mod Outcome
 pub mod Events
 pub mod Worked
-pub mod Told
-pub mod ToldParts
-pub mod ToldCalls

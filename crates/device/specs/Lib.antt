@@ -3,4 +3,3 @@ pub mod Device
 pub mod Cycles
 pub mod Chip
 pub mod Packing
-pub mod Told

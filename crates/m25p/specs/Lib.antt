@@ -1,4 +1,3 @@
 -- What the C calls mean.
 pub mod Calls
 pub mod Pins
-pub mod Told

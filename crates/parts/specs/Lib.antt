@@ -2,4 +2,3 @@
 pub mod Parts
 pub mod Protected
 pub mod Table
-pub mod Told

@@ -1,4 +1,4 @@
--- The five parts told a second time, and computed: what they drive, the record after each instruction, where protection begins, which bytes change. Lengths are handed over as numbers.
+-- What instructions do, part by part, told a second time, and computed: what is driven, the record after each instruction, where protection begins, which bytes change. Lengths are handed over as numbers.
 use mathlib.Core.Path.{_≡_, refl}
 use mathlib.Core.Bool.{true, false}
 use mathlib.Core.List.{List, [], _∷_, _++_, map}
@@ -12,14 +12,14 @@ use Rattle.device.specs.declared.Mode.the-variants.{Standby, Busy, Deep}
 use Rattle.device.specs.declared.Device.{Device}
 use Rattle.device.specs.Device.{sound, statusByte, moded, latched, settled, running, latchAt}
 use Rattle.device.specs.declared.cycle.Kind.the-variants.{Settings, Page, Sector, All}
 use Rattle.chip.specs.Table.{rowOf, addressOf, rowIn}
 use Rattle.chip.specs.Answers.{hostNumber, inProtected, asNeeded, chipNumber, decided, verdictOf}
 use Rattle.chip.specs.Line.{Driven, silent, drives, byRow, heard, heardRow, driven, lined, drivingAt, firstOf, countOf}
 use Rattle.device.specs.Cycles.{noSlots, touched}
 use Rattle.chip.specs.Change.{cycleOf, changed, bpIn, turned}
 use Rattle.chip.specs.Outcome.{outcomeOf}
 use Rattle.chip.specs.Worked.{record-of, usual}
-use Rattle.chip.specs.Told.{sizes, number}
+use Rattle.told.specs.Answers.{sizes, number}
 
 -- a part in standby with a BP, SRWD 0, latch set
 abbrev pub part : ℕ → ℕ → Device
