@@ -12,13 +12,16 @@
  *   2   M25P40        524,288    8        65,536       20 20 13        12         7
  *   3   M25P32      4,194,304   64        65,536       20 20 16        15         7
  *   4   M25P128    16,777,216   64       262,144       20 20 18        none       7
+ *   5   M25P10-A,     131,072    4        32,768       none            10         3
+ *       older
  *
  *   Identification and signature are hexadecimal. A page is 256 bytes. Part 0 exists only here, for
- *   programs that want small buffers.
+ *   programs that want small buffers. Part 5 is the M25P10-A before process technology X and Y: it does
+ *   what part 1 does, but 9F is not an instruction of it and answers 14.
  *
  * The packed record, 28 bytes
  *
- *   byte 0       part, 0 to 4
+ *   byte 0       part, 0 to 5
  *   byte 1       BP (block protect), 0 to the part's highest
  *   byte 2       SRWD (status register write disable), 0 or 1
  *   byte 3       write enable latch, 0 or 1
@@ -81,7 +84,8 @@ enum m25p_part {
     M25P_M25P10A = 1,
     M25P_M25P40 = 2,
     M25P_M25P32 = 3,
-    M25P_M25P128 = 4
+    M25P_M25P128 = 4,
+    M25P_M25P10A_OLDER = 5
 };
 
 #define M25P_BENCH_BYTES 4096u
@@ -89,6 +93,7 @@ enum m25p_part {
 #define M25P_M25P40_BYTES 524288u
 #define M25P_M25P32_BYTES 4194304u
 #define M25P_M25P128_BYTES 16777216u
+#define M25P_M25P10A_OLDER_BYTES 131072u
 
 /* Answer numbers. On 1 to 8 and 21 to 23 the call was refused and has written nothing anywhere. On 11 to
  * 18 the chip ignored the transaction: record and array stay, the latch included, and the response is all
@@ -96,7 +101,7 @@ enum m25p_part {
 enum m25p_number {
     M25P_EXECUTED = 0,          /* done */
 
-    M25P_UNKNOWN_PART = 1,      /* deliver: part above 4 */
+    M25P_UNKNOWN_PART = 1,      /* deliver: part above 5 */
     M25P_ARRAY_LENGTH = 2,      /* deliver, transact, pins: array_len is not the part's size */
     M25P_SENT_LENGTH = 3,       /* transact: sent_len above 65,536 */
     M25P_PULSES = 4,            /* transact: further pulses above 7 */
@@ -142,9 +147,10 @@ uint64_t m25p_deliver(uint8_t *record, size_t record_len, uint32_t part,
  *   06    WREN       n = 1, no pulses               latch set
  *   04    WRDI       n = 1, no pulses               latch reset
  *   9F    RDID       n >= 1                         from byte 1: the identification, then 00
+ *                                                   (unknown on part 5)
  *   05    RDSR       n >= 1                         from byte 1: the status byte, repeated
  *   01    WRSR       n = 2, no pulses, latch        SRWD = bit 7, BP = bits 4 to 2 (3 and 2 on parts
- *                                                   0 and 1)
+ *                                                   0, 1 and 5)
  *   03    READ       n >= 4                         from byte 4: the array from the address on, rolling
  *                                                   over from the last byte to 0
  *   0B    FAST_READ  n >= 5                         the same, from byte 5

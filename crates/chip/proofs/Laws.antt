@@ -159,7 +159,7 @@ one-delivery p q = (same-checked (p .answer ∙ sym (q .answer)) (p .device ∙ 
 -- a part number above 255 is no part's
 pub large : (part array p s b t : ℕ) → 255 < part → deliveryAnswer part array p s b t ≡ 1
 unfolding deliveryAnswer
-large part array p s b t h = let k : 4 < part = omega arith in rw (lt-leb part 4 k)
+large part array p s b t h = let k : 5 < part = omega arith in rw (lt-leb part 5 k)
 
 -- refused: the number, the all-zero record, the array as it was
 pub refused-delivery : (part : ℕ) (array : List ℕ) (p s b t k : ℕ) {r : Checked} → k ≡ deliveryAnswer part (length array) p s b t → (k ≡ 0 → ⊥) → r .answer ≡ k → r .device ≡ zeroRecord

@@ -7,4 +7,5 @@ pub mod Laws
 pub mod Rules
 pub mod Events
 pub mod Reading
+pub mod Older
 pub mod Worked

@@ -76,7 +76,7 @@ write-laws n m k = quiet-laws (write n m k) refl (lit≤ tt) (lit≤ tt)
 pub row-laws : (f : Figures) (code : ℕ) → RowLaws (rowOf f code)
 row-laws f =
     rows-ind (λ code r. RowLaws r) f (order-laws _) (order-laws _)
-    (reading-laws _ (lit≤ tt) (lit≤ tt) (lit≤ tt) (record { enough = lit≤ tt; unbounded = refl; pulsed = refl; unlatched = refl; startless = λ by other. refl }))
+    (λ e. reading-laws _ (lit≤ tt) (lit≤ tt) (lit≤ tt) (record { enough = lit≤ tt; unbounded = refl; pulsed = refl; unlatched = refl; startless = λ by other. refl }))
     (reading-laws _ (lit≤ tt) (lit≤ tt) (lit≤ tt) (record { enough = lit≤ tt; unbounded = refl; pulsed = refl; unlatched = refl; startless = λ by other. refl }))
     (write-laws _ _ _)
     (reading-laws _ (lit≤ tt) (lit≤ tt) (lit≤ tt) (record { enough = lit≤ tt; unbounded = refl; pulsed = refl; unlatched = refl; startless = λ by other. refl }))

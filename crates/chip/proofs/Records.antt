@@ -42,13 +42,13 @@ TurnLaw Sleep f code busy = f .sleeps ≡ true
 TurnLaw Wake f code busy = Unit {0}
 
 pub turn-law : (f : Figures) (code : ℕ) → TurnLaw (rowOf f code .turn) f code (rowOf f code .busy)
-turn-law f = rows-ind (λ code r. TurnLaw (r .turn) f code (r .busy)) f refl refl tt tt refl tt tt tt tt tt (λ e. e) (λ e. tt) (λ code. tt)
+turn-law f = rows-ind (λ code r. TurnLaw (r .turn) f code (r .busy)) f refl refl (λ e. tt) tt refl tt tt tt tt tt (λ e. e) (λ e. tt) (λ code. tt)
 
 -- BP of a settings byte does not exceed the part's highest
 bp-fits : (p b : ℕ) → leb (bpIn (figuresOf p) b) (figuresOf p .«highest_bp») ≡ true
 unfolding bpIn
 bp-fits p b =
-    figures-ind (λ (f : Figures). leb (bpIn f b) (f .«highest_bp») ≡ true)
+    figures-ind (λ (f : Figures). leb (bpIn f b) (f .«highest_bp») ≡ true) (λ f h. h)
     (le-leb (b / 4 % 4) 3 (omega arith))
     (le-leb (b / 4 % 4) 3 (omega arith))
     (le-leb (b / 4 % 8) 7 (omega arith))

@@ -25,14 +25,14 @@ module _ (P : ℕ → Row → Type 0) (f : Figures) where
   if-had code true p q = p refl
   if-had code false p q = q
 
-  pub rows-ind : P 0x06 (order Enable) → P 0x04 (order Disable) → P 0x9F (reading 1 Identification 1 Keep) → P 0x05 (alsoBusy (reading 1 Status 1 Keep)) → P 0x01 (write 2 2 Settings)
+  pub rows-ind : P 0x06 (order Enable) → P 0x04 (order Disable) → (f .identifies ≡ true → P 0x9F (reading 1 Identification 1 Keep)) → P 0x05 (alsoBusy (reading 1 Status 1 Keep)) → P 0x01 (write 2 2 Settings)
       → P 0x03 (reading 4 Array 4 Keep) → P 0x0B (reading 5 Array 5 Keep) → P 0x02 (write 5 longest Page) → P 0xD8 (write 4 4 Sector) → P 0xC7 (write 1 1 All)
       → (f .sleeps ≡ true → P 0xB9 (order Sleep)) → (f .sleeps ≡ true → P 0xAB (alsoDeep (reading 1 Signature 4 Wake))) → ((code : ℕ) → P code unknown) → (code : ℕ) → P code (rowOf f code)
   unfolding rowOf
   rows-ind wren wrdi rdid rdsr wrsr read fast pp se be dp res none code =
       at-code code 0x06 wren
       (at-code code 0x04 wrdi
-      (at-code code 0x9F rdid
+      (at-code code 0x9F (if-had 0x9F (f .identifies) rdid (none 0x9F))
       (at-code code 0x05 rdsr
       (at-code code 0x01 wrsr
       (at-code code 0x03 read

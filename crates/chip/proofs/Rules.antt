@@ -120,7 +120,7 @@ pub record Figured (f : Figures) : Type 0 where
 
 figured : (p : ℕ) → Figured (figuresOf p)
 figured p =
-    figures-ind Figured
+    figures-ind Figured (λ f h. record { maker = lit< tt; «memory-type» = lit< tt; capacity = lit< tt; signature = h .signature })
     (record { maker = lit< tt; «memory-type» = lit< tt; capacity = lit< tt; signature = lit< tt })
     (record { maker = lit< tt; «memory-type» = lit< tt; capacity = lit< tt; signature = lit< tt })
     (record { maker = lit< tt; «memory-type» = lit< tt; capacity = lit< tt; signature = lit< tt })

@@ -5,4 +5,5 @@ pub mod Line
 pub mod Change
 pub mod Outcome
 pub mod Events
+pub mod Older
 pub mod Worked

@@ -48,12 +48,12 @@ alsoDeep r = record { known = r .known; least = r .least; most = r .most; «no_p
 abbrev pub onlyIf : Bool → Row → Row
 onlyIf test r = cond test r unknown
 
--- the row of a code: B9 and AB are instructions only of a part that sleeps
+-- the row of a code: 9F is an instruction only of a part that identifies itself, B9 and AB only of one that sleeps
 unfoldable pub rowOf : Figures → ℕ → Row
 rowOf f code =
     cond (eqb code 0x06) (order Enable)
     (cond (eqb code 0x04) (order Disable)
-    (cond (eqb code 0x9F) (reading 1 Identification 1 Keep)
+    (cond (eqb code 0x9F) (onlyIf (f .identifies) (reading 1 Identification 1 Keep))
     (cond (eqb code 0x05) (alsoBusy (reading 1 Status 1 Keep))
     (cond (eqb code 0x01) (write 2 2 Settings)
     (cond (eqb code 0x03) (reading 4 Array 4 Keep)

@@ -217,5 +217,17 @@ names = record {
   steps = reads (0x9F ∷ 0 ∷ 0 ∷ 0 ∷ 0 ∷ []) 1 (0x20 ∷ 0x20 ∷ 0x13 ∷ 0 ∷ []) ∷ reads (0xAB ∷ 0 ∷ 0 ∷ 0 ∷ 0 ∷ 0 ∷ []) 4 (0x12 ∷ 0x12 ∷ []) ∷ [];
 }
 
+-- the older M25P10-A: `9F` gives 14 in standby; RES drives 10
+abbrev pub older : Case
+older = record { device = record-of 5 0 false true Standby; steps = answers (0x9F ∷ 0 ∷ 0 ∷ 0 ∷ []) 14 ∷ reads (0xAB ∷ 0 ∷ 0 ∷ 0 ∷ 0 ∷ 0 ∷ []) 4 (0x10 ∷ 0x10 ∷ []) ∷ [] }
+
+-- while busy, too, and 12 to what it knows
+abbrev pub older-busy : Case
+older-busy = record { device = record-of 5 0 false true (Busy 3); steps = answers (0x9F ∷ 0 ∷ []) 14 ∷ answers (0xAB ∷ []) 12 ∷ status 0x03 ∷ [] }
+
+-- in deep power-down, too; RES releases it
+abbrev pub older-deep : Case
+older-deep = record { device = record-of 5 0 false true Deep; steps = answers (0x9F ∷ 0 ∷ []) 14 ∷ answers (0x05 ∷ 0 ∷ []) 13 ∷ answers (0xAB ∷ []) 0 ∷ status 0x02 ∷ [] }
+
 unfoldable pub further : List Case
-further = low-alone ∷ low-program ∷ busy-unknown ∷ roll-over ∷ two-bits ∷ three-bits ∷ wraps ∷ erases ∷ names ∷ []
+further = low-alone ∷ low-program ∷ busy-unknown ∷ roll-over ∷ two-bits ∷ three-bits ∷ wraps ∷ erases ∷ names ∷ older ∷ older-busy ∷ older-deep ∷ []

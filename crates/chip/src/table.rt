@@ -144,7 +144,7 @@ fn decode(figures: Figures, code: u8) -> Row
     match code {
         0x06 => Row::order(Turn::Enable),
         0x04 => Row::order(Turn::Disable),
-        0x9F => Row::reading(1, Drive::Identification, 1, Turn::Keep),
+        0x9F => Row::reading(1, Drive::Identification, 1, Turn::Keep).only_if(figures.identifies),
         0x05 => Row::reading(1, Drive::Status, 1, Turn::Keep).also_busy(),
         0x01 => Row::write(2, 2, Kind::Settings),
         0x03 => Row::reading(4, Drive::Array, 4, Turn::Keep),

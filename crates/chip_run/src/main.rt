@@ -1,4 +1,4 @@
-// Runs document 01's worked cases, and cases of our own, on the three parts whose arrays fit the stack, through both entries. What a script says stands in `steps`.
+// Runs document 01's worked cases, and cases of our own, on the four parts whose arrays fit the stack, through both entries. What a script says stands in `steps`.
 // K14 is not here: it needs the 16 MiB of the M25P128, and is proved.
 mod long;
 mod protected;
@@ -13,11 +13,11 @@ fn bench(name: &[u8], script: &[u8]) {
     steps::case(name, 0, &mut a, &mut b, script);
 }
 
-// The same on the M25P10-A.
-fn m25p10a(name: &[u8], script: &[u8]) {
+// The same on an M25P10-A: part 1, or part 5, the older one.
+fn m25p10a(name: &[u8], part: u32, script: &[u8]) {
     let mut a = [0; 131_072];
     let mut b = [0; 131_072];
-    steps::case(name, 1, &mut a, &mut b, script);
+    steps::case(name, part, &mut a, &mut b, script);
 }
 
 // The same on the M25P40.
@@ -163,21 +163,53 @@ fn on_m25p10a() {
     // 20 20 11, then 00; the signature is 10
     m25p10a(
         b"M25P10-A-identification",
+        1,
         b"x 1 0 9F0000000000;x 1 0 AB00000000",
     );
     // WRSR takes bits 3 and 2 alone: BP 3 of FF, BP 0 of 10
     m25p10a(
         b"M25P10-A-bit-4",
+        1,
         b"x 1 0 01FF;x 1 0 0500;w 2;x 1 0 0500;= 0 0 1;x 1 0 0110;w 2;x 1 0 0500",
     );
     // FFFFFF is the last byte, 01FFFF
     m25p10a(
         b"M25P10-A-roll-over",
+        1,
         b"x 1 0 0201FFFF5A;= 0 0 1;x 1 0 02000000C3;w 3;x 1 0 03FFFFFF0000;x 1 0 0BFFFFFF000000",
     );
     // BP 1 protects from 018000 on
     m25p10a(
         b"M25P10-A-protected",
+        1,
+        b"= 0 1 1;x 1 0 02017FFF00;= 0 1 1;x 1 0 0201800000;x 1 0 C7",
+    );
+}
+
+// The older M25P10-A.
+fn on_older_m25p10a() {
+    // 9F gives 14 and drives nothing; the signature is 10
+    m25p10a(
+        b"M25P10-A-older-identification",
+        5,
+        b"x 1 0 9F0000000000;x 1 7 9F;x 1 0 AB00000000",
+    );
+    // 14 while busy too, where what it knows gives 12
+    m25p10a(
+        b"M25P10-A-older-busy",
+        5,
+        b"x 1 0 0201FFFF5A;x 1 0 9F0000;x 1 0 AB;x 1 0 0500;w 3;x 1 0 9F0000;a 01FFFF",
+    );
+    // and in deep power-down, which AB releases
+    m25p10a(
+        b"M25P10-A-older-deep",
+        5,
+        b"x 1 0 B9;x 1 0 9F0000;x 1 0 0500;x 1 0 AB00000000;x 1 0 0500",
+    );
+    // BP 1 protects from 018000 on
+    m25p10a(
+        b"M25P10-A-older-protected",
+        5,
         b"= 0 1 1;x 1 0 02017FFF00;= 0 1 1;x 1 0 0201800000;x 1 0 C7",
     );
 }
@@ -232,6 +264,7 @@ fn main() {
     modes();
     refusals();
     on_m25p10a();
+    on_older_m25p10a();
     on_m25p40();
     protected_areas();
 }

@@ -14,7 +14,7 @@ accepted = 0 ∷ 0 ∷ 0 ∷ 0 ∷ 0 ∷ 0 ∷ 0 ∷ 0 ∷ 0 ∷ 0 ∷ 0 ∷ 0 �
 
 pub record Refusals : Type 0 where
   pub as-is : unpackAnswer accepted ≡ 0
-  pub part : unpackAnswer (set accepted 0 5) ≡ 6
+  pub part : unpackAnswer (set accepted 0 6) ≡ 6
   pub bp : unpackAnswer (set accepted 1 4) ≡ 6
   pub srwd : unpackAnswer (set accepted 2 2) ≡ 6
   pub latch : unpackAnswer (set accepted 3 2) ≡ 6

@@ -127,12 +127,16 @@ fn sound_ones() {
         record(4, 0, false, true, Mode::Busy(66_051)),
     );
     round(b"bench-deep", record(0, 1, false, false, Mode::Deep));
+    round(
+        b"M25P10-A-older-deep",
+        record(5, 3, true, false, Mode::Deep),
+    );
 }
 
 // Records that are not sound, and buffers of another length: 6, and 8 before it, with nothing written.
 fn refused_packs() {
     pack_whole(b"pack-zero", Device::zero());
-    pack_whole(b"pack-part-5", record(5, 0, false, false, Mode::Standby));
+    pack_whole(b"pack-part-6", record(6, 0, false, false, Mode::Standby));
     pack_whole(b"pack-bp-4", record(0, 4, false, false, Mode::Standby));
     pack_whole(
         b"pack-busy-latch-reset",
@@ -153,8 +157,8 @@ fn refused_packs() {
 
 // Bytes that are not the packing of a sound record: 6 with the all-zero record. Where the changed byte gives another sound record: 0.
 fn damaged_in_standby() {
+    damaged(b"part-6", standby(), 0, 6);
     damaged(b"part-5", standby(), 0, 5);
-    damaged(b"part-4", standby(), 0, 4);
     damaged(b"bp-4", standby(), 1, 4);
     damaged(b"bp-3", standby(), 1, 3);
     damaged(b"srwd-2", standby(), 2, 2);

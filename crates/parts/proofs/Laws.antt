@@ -8,15 +8,15 @@ use lib.Dec.{eqb, lit<, lit≤}
 use lib.Pow.{pow-mono, shl-exact}
 use borrow.Author.Tests.{ne-eqb}
 use Rattle.slices.proofs.Choices.{cond-ind}
-use Rattle.parts.specs.Parts.{figuresOf, bench, m25p10a, m25p40, m25p32, m25p128}
+use Rattle.parts.specs.Parts.{figuresOf, bench, m25p10a, m25p40, m25p32, m25p128, unidentified}
 use Rattle.parts.specs.Protected.{protectedOf}
 use Rattle.parts.specs.declared.Figures.{Figures}
 
--- what holds of each part's figures holds of every number's
-pub figures-ind : (P : Figures → Type 0) → P bench → P m25p10a → P m25p40 → P m25p32 → P m25p128 → (p : ℕ) → P (figuresOf p)
+-- what holds of each part's figures, with Read Identification or without, holds of every number's
+pub figures-ind : (P : Figures → Type 0) → ((f : Figures) → P f → P (unidentified f)) → P bench → P m25p10a → P m25p40 → P m25p32 → P m25p128 → (p : ℕ) → P (figuresOf p)
 unfolding figuresOf
-figures-ind P p0 p1 p2 p3 p4 p =
-    cond-ind P (eqb p 1) p1 (cond-ind P (eqb p 2) p2 (cond-ind P (eqb p 3) p3 (cond-ind P (eqb p 4) p4 p0)))
+figures-ind P older p0 p1 p2 p3 p4 p =
+    cond-ind P (eqb p 1) p1 (cond-ind P (eqb p 2) p2 (cond-ind P (eqb p 3) p3 (cond-ind P (eqb p 4) p4 (cond-ind P (eqb p 5) (older m25p10a p1) p0))))
 
 -- what every part has; `pages` is how many pages a sector holds, so that a page lies within one sector
 pub record Sane (f : Figures) : Type 0 where
@@ -31,9 +31,14 @@ pub record Sane (f : Figures) : Type 0 where
   pub paged : f .«sector_bytes» ≡ 256 * pages
   pub bp-few : f .«highest_bp» ≤ 7
 
+-- none of which is the identification
+still-sane : (f : Figures) → Sane f → Sane (unidentified f)
+still-sane f s =
+    record { some = s .some; few = s .few; bytes-paged = s .bytes-paged; sectors-some = s .sectors-some; sectors-few = s .sectors-few; sector-some = s .sector-some; whole = s .whole; pages = s .pages; paged = s .paged; bp-few = s .bp-few }
+
 pub sane : (p : ℕ) → Sane (figuresOf p)
 sane p =
-    figures-ind Sane
+    figures-ind Sane still-sane
     (record { some = lit< tt; few = lit≤ tt; bytes-paged = refl; sectors-some = lit< tt; sectors-few = lit≤ tt; sector-some = lit< tt; whole = refl; pages = 4; paged = refl; bp-few = lit≤ tt })
     (record { some = lit< tt; few = lit≤ tt; bytes-paged = refl; sectors-some = lit< tt; sectors-few = lit≤ tt; sector-some = lit< tt; whole = refl; pages = 128; paged = refl; bp-few = lit≤ tt })
     (record { some = lit< tt; few = lit≤ tt; bytes-paged = refl; sectors-some = lit< tt; sectors-few = lit≤ tt; sector-some = lit< tt; whole = refl; pages = 256; paged = refl; bp-few = lit≤ tt })

@@ -1,6 +1,6 @@
-// The five parts, each a type whose constants are its figures, and how many sectors BP protects.
+// The six parts, each a type whose constants are its figures, and how many sectors BP protects.
 ghost use mathlib.Core.Path.{_≡_};
-ghost use Rattle.parts.specs.Parts.{bench, m25p10a, m25p40, m25p32, m25p128, figuresOf, knownPart};
+ghost use Rattle.parts.specs.Parts.{bench, m25p10a, m25p40, m25p32, m25p128, m25p10aOlder, figuresOf, knownPart};
 ghost use Rattle.parts.specs.Protected.{protectedOf};
 
 // Part 0, for programs that run in small buffers.
@@ -18,7 +18,12 @@ pub struct M25p32;
 // Part 4. It has no deep power-down and no signature: SIGNATURE is 0 and never driven.
 pub struct M25p128;
 
-// A part's figures as one value. `sleeps` says whether deep power-down and its release, B9 and AB, exist.
+// Part 5, the M25P10-A before process technology X and Y: part 1 without Read Identification. Its identification is 0
+// and never driven.
+pub struct M25p10aOlder;
+
+// A part's figures as one value. `identifies` says whether Read Identification, 9F, exists; `sleeps` whether deep
+// power-down and its release, B9 and AB, do.
 pub struct Figures {
     pub bytes: usize,
     pub sectors: usize,
@@ -26,6 +31,7 @@ pub struct Figures {
     pub maker: u8,
     pub memory_type: u8,
     pub capacity: u8,
+    pub identifies: bool,
     pub signature: u8,
     pub sleeps: bool,
     pub highest_bp: u8,
@@ -44,6 +50,8 @@ impl Bench {
 
     pub const CAPACITY: u8 = 0x0C;
 
+    pub const IDENTIFIES: bool = true;
+
     pub const SIGNATURE: u8 = 0x0B;
 
     pub const SLEEPS: bool = true;
@@ -61,6 +69,7 @@ impl Bench {
             maker: Self::MAKER,
             memory_type: Self::MEMORY_TYPE,
             capacity: Self::CAPACITY,
+            identifies: Self::IDENTIFIES,
             signature: Self::SIGNATURE,
             sleeps: Self::SLEEPS,
             highest_bp: Self::HIGHEST_BP,
@@ -81,6 +90,8 @@ impl M25p10a {
 
     pub const CAPACITY: u8 = 0x11;
 
+    pub const IDENTIFIES: bool = true;
+
     pub const SIGNATURE: u8 = 0x10;
 
     pub const SLEEPS: bool = true;
@@ -98,6 +109,7 @@ impl M25p10a {
             maker: Self::MAKER,
             memory_type: Self::MEMORY_TYPE,
             capacity: Self::CAPACITY,
+            identifies: Self::IDENTIFIES,
             signature: Self::SIGNATURE,
             sleeps: Self::SLEEPS,
             highest_bp: Self::HIGHEST_BP,
@@ -118,6 +130,8 @@ impl M25p40 {
 
     pub const CAPACITY: u8 = 0x13;
 
+    pub const IDENTIFIES: bool = true;
+
     pub const SIGNATURE: u8 = 0x12;
 
     pub const SLEEPS: bool = true;
@@ -135,6 +149,7 @@ impl M25p40 {
             maker: Self::MAKER,
             memory_type: Self::MEMORY_TYPE,
             capacity: Self::CAPACITY,
+            identifies: Self::IDENTIFIES,
             signature: Self::SIGNATURE,
             sleeps: Self::SLEEPS,
             highest_bp: Self::HIGHEST_BP,
@@ -155,6 +170,8 @@ impl M25p32 {
 
     pub const CAPACITY: u8 = 0x16;
 
+    pub const IDENTIFIES: bool = true;
+
     pub const SIGNATURE: u8 = 0x15;
 
     pub const SLEEPS: bool = true;
@@ -172,6 +189,7 @@ impl M25p32 {
             maker: Self::MAKER,
             memory_type: Self::MEMORY_TYPE,
             capacity: Self::CAPACITY,
+            identifies: Self::IDENTIFIES,
             signature: Self::SIGNATURE,
             sleeps: Self::SLEEPS,
             highest_bp: Self::HIGHEST_BP,
@@ -192,6 +210,8 @@ impl M25p128 {
 
     pub const CAPACITY: u8 = 0x18;
 
+    pub const IDENTIFIES: bool = true;
+
     pub const SIGNATURE: u8 = 0x00;
 
     pub const SLEEPS: bool = false;
@@ -209,6 +229,47 @@ impl M25p128 {
             maker: Self::MAKER,
             memory_type: Self::MEMORY_TYPE,
             capacity: Self::CAPACITY,
+            identifies: Self::IDENTIFIES,
+            signature: Self::SIGNATURE,
+            sleeps: Self::SLEEPS,
+            highest_bp: Self::HIGHEST_BP,
+        }
+    }
+}
+
+impl M25p10aOlder {
+    pub const BYTES: usize = M25p10a::BYTES;
+
+    pub const SECTORS: usize = M25p10a::SECTORS;
+
+    pub const SECTOR_BYTES: usize = M25p10a::SECTOR_BYTES;
+
+    pub const MAKER: u8 = 0x00;
+
+    pub const MEMORY_TYPE: u8 = 0x00;
+
+    pub const CAPACITY: u8 = 0x00;
+
+    pub const IDENTIFIES: bool = false;
+
+    pub const SIGNATURE: u8 = M25p10a::SIGNATURE;
+
+    pub const SLEEPS: bool = M25p10a::SLEEPS;
+
+    pub const HIGHEST_BP: u8 = M25p10a::HIGHEST_BP;
+
+    // The figures as one value.
+    pub fn figures() -> Figures
+        ensures { λ r. ⌜ r ≡ m25p10aOlder ⌝ }
+    {
+        Figures {
+            bytes: Self::BYTES,
+            sectors: Self::SECTORS,
+            sector_bytes: Self::SECTOR_BYTES,
+            maker: Self::MAKER,
+            memory_type: Self::MEMORY_TYPE,
+            capacity: Self::CAPACITY,
+            identifies: Self::IDENTIFIES,
             signature: Self::SIGNATURE,
             sleeps: Self::SLEEPS,
             highest_bp: Self::HIGHEST_BP,
@@ -226,6 +287,7 @@ impl Figures {
             2 => M25p40::figures(),
             3 => M25p32::figures(),
             4 => M25p128::figures(),
+            5 => M25p10aOlder::figures(),
             _ => Bench::figures(),
         }
     }
@@ -235,7 +297,7 @@ impl Figures {
 pub fn known(part: u8) -> bool
     ensures { λ r. ⌜ r ≡ knownPart part ⌝ }
 {
-    part <= 4
+    part <= 5
 }
 
 // How many of the highest sectors are protected. From BP 65 on the power is more than any number of sectors.

@@ -24,9 +24,9 @@ use Rattle.chip.specs.Worked.{record-of, bench, usual}
 abbrev pub unsound : Device
 unsound = bench 4 false true
 
--- the bytes of each part, as document 01 has them
+-- the bytes of each part, as document 01 has them, and of the older M25P10-A
 abbrev pub sizes : List ℕ
-sizes = 4096 ∷ 131072 ∷ 524288 ∷ 4194304 ∷ 16777216 ∷ []
+sizes = 4096 ∷ 131072 ∷ 524288 ∷ 4194304 ∷ 16777216 ∷ 131072 ∷ []
 
 -- what a delivery of a part answers on arrays of these lengths
 abbrev pub delivers : ℕ → List ℕ → List ℕ
@@ -42,20 +42,22 @@ borders = 0 ∷ 1 ∷ 1000000 ∷ 1000001 ∷ []
 
 -- what the host side answers
 pub record Host : Type 0 where
-  -- delivery, 1: part above 4
-  pub one : map (λ (p : ℕ). deliveryAnswer p 4096 3 5 9 2) (0 ∷ 5 ∷ 255 ∷ 256 ∷ []) ≡ 0 ∷ 1 ∷ 1 ∷ 1 ∷ []
+  -- delivery, 1: part above 5
+  pub one : map (λ (p : ℕ). deliveryAnswer p 4096 3 5 9 2) (0 ∷ 6 ∷ 255 ∷ 256 ∷ []) ≡ 0 ∷ 1 ∷ 1 ∷ 1 ∷ []
   -- delivery and transaction, 2: every length but the part's own
-  pub two-bench : delivers 0 sizes ≡ 0 ∷ 2 ∷ 2 ∷ 2 ∷ 2 ∷ []
-  pub two-m25p10a : delivers 1 sizes ≡ 2 ∷ 0 ∷ 2 ∷ 2 ∷ 2 ∷ []
-  pub two-m25p40 : delivers 2 sizes ≡ 2 ∷ 2 ∷ 0 ∷ 2 ∷ 2 ∷ []
-  pub two-m25p32 : delivers 3 sizes ≡ 2 ∷ 2 ∷ 2 ∷ 0 ∷ 2 ∷ []
-  pub two-m25p128 : delivers 4 sizes ≡ 2 ∷ 2 ∷ 2 ∷ 2 ∷ 0 ∷ []
+  pub two-bench : delivers 0 sizes ≡ 0 ∷ 2 ∷ 2 ∷ 2 ∷ 2 ∷ 2 ∷ []
+  pub two-m25p10a : delivers 1 sizes ≡ 2 ∷ 0 ∷ 2 ∷ 2 ∷ 2 ∷ 0 ∷ []
+  pub two-m25p40 : delivers 2 sizes ≡ 2 ∷ 2 ∷ 0 ∷ 2 ∷ 2 ∷ 2 ∷ []
+  pub two-m25p32 : delivers 3 sizes ≡ 2 ∷ 2 ∷ 2 ∷ 0 ∷ 2 ∷ 2 ∷ []
+  pub two-m25p128 : delivers 4 sizes ≡ 2 ∷ 2 ∷ 2 ∷ 2 ∷ 0 ∷ 2 ∷ []
+  pub two-older : delivers 5 sizes ≡ 2 ∷ 0 ∷ 2 ∷ 2 ∷ 2 ∷ 0 ∷ []
   pub two-near : delivers 0 (0 ∷ 4095 ∷ 4097 ∷ []) ≡ 2 ∷ 2 ∷ 2 ∷ []
-  pub takes-bench : takes 0 sizes ≡ 0 ∷ 2 ∷ 2 ∷ 2 ∷ 2 ∷ []
-  pub takes-m25p10a : takes 1 sizes ≡ 2 ∷ 0 ∷ 2 ∷ 2 ∷ 2 ∷ []
-  pub takes-m25p40 : takes 2 sizes ≡ 2 ∷ 2 ∷ 0 ∷ 2 ∷ 2 ∷ []
-  pub takes-m25p32 : takes 3 sizes ≡ 2 ∷ 2 ∷ 2 ∷ 0 ∷ 2 ∷ []
-  pub takes-m25p128 : takes 4 sizes ≡ 2 ∷ 2 ∷ 2 ∷ 2 ∷ 0 ∷ []
+  pub takes-bench : takes 0 sizes ≡ 0 ∷ 2 ∷ 2 ∷ 2 ∷ 2 ∷ 2 ∷ []
+  pub takes-m25p10a : takes 1 sizes ≡ 2 ∷ 0 ∷ 2 ∷ 2 ∷ 2 ∷ 0 ∷ []
+  pub takes-m25p40 : takes 2 sizes ≡ 2 ∷ 2 ∷ 0 ∷ 2 ∷ 2 ∷ 2 ∷ []
+  pub takes-m25p32 : takes 3 sizes ≡ 2 ∷ 2 ∷ 2 ∷ 0 ∷ 2 ∷ 2 ∷ []
+  pub takes-m25p128 : takes 4 sizes ≡ 2 ∷ 2 ∷ 2 ∷ 2 ∷ 0 ∷ 2 ∷ []
+  pub takes-older : takes 5 sizes ≡ 2 ∷ 0 ∷ 2 ∷ 2 ∷ 2 ∷ 0 ∷ []
   pub takes-near : takes 4 (0 ∷ 16777215 ∷ 16777217 ∷ []) ≡ 2 ∷ 2 ∷ 2 ∷ []
   -- delivery, 7: a duration outside 1 to 1,000,000
   pub seven-program : map (λ (x : ℕ). deliveryAnswer 0 4096 x 5 9 2) borders ≡ 7 ∷ 0 ∷ 0 ∷ 7 ∷ []
@@ -63,7 +65,7 @@ pub record Host : Type 0 where
   pub seven-bulk : map (λ (x : ℕ). deliveryAnswer 0 4096 3 5 x 2) borders ≡ 7 ∷ 0 ∷ 0 ∷ 7 ∷ []
   pub seven-status : map (λ (x : ℕ). deliveryAnswer 0 4096 3 5 9 x) borders ≡ 7 ∷ 0 ∷ 0 ∷ 7 ∷ []
   -- delivery in order, each with all that come after it: 1, 2, 7
-  pub delivery-order : deliveryAnswer 5 0 0 5 9 2 ∷ deliveryAnswer 0 0 0 5 9 2 ∷ deliveryAnswer 0 4096 0 5 9 2 ∷ deliveryAnswer 0 4096 3 5 9 2 ∷ [] ≡ 1 ∷ 2 ∷ 7 ∷ 0 ∷ []
+  pub delivery-order : deliveryAnswer 6 0 0 5 9 2 ∷ deliveryAnswer 0 0 0 5 9 2 ∷ deliveryAnswer 0 4096 0 5 9 2 ∷ deliveryAnswer 0 4096 3 5 9 2 ∷ [] ≡ 1 ∷ 2 ∷ 7 ∷ 0 ∷ []
   -- an executed delivery gives the record as delivered and an array all FF; a refused one the all-zero record, and leaves the array
   pub given : onZero 0 (delivered 2 3 5 9 2) zeroRecord ≡ record { part = 2; bp = 0; srwd = false; latch = false; mode = Standby; program = 3; «sector_erase» = 5; «bulk_erase» = 9; «write_status» = 2 }
   pub not-given : onZero 7 (delivered 2 3 5 9 2) zeroRecord ≡ record { part = 0; bp = 0; srwd = false; latch = false; mode = Standby; program = 0; «sector_erase» = 0; «bulk_erase» = 0; «write_status» = 0 }
@@ -90,12 +92,14 @@ host = record {
   two-m25p40 = refl;
   two-m25p32 = refl;
   two-m25p128 = refl;
+  two-older = refl;
   two-near = refl;
   takes-bench = refl;
   takes-m25p10a = refl;
   takes-m25p40 = refl;
   takes-m25p32 = refl;
   takes-m25p128 = refl;
+  takes-older = refl;
   takes-near = refl;
   seven-program = refl;
   seven-sector = refl;
@@ -169,6 +173,10 @@ codes = 0x01 ∷ 0x02 ∷ 0x03 ∷ 0x04 ∷ 0x05 ∷ 0x06 ∷ 0x0B ∷ 0x9F ∷ 
 abbrev pub sleepless : List ℕ
 sleepless = 0x01 ∷ 0x02 ∷ 0x03 ∷ 0x04 ∷ 0x05 ∷ 0x06 ∷ 0x0B ∷ 0x9F ∷ 0xC7 ∷ 0xD8 ∷ []
 
+-- the eleven of the older M25P10-A
+abbrev pub nameless : List ℕ
+nameless = 0x01 ∷ 0x02 ∷ 0x03 ∷ 0x04 ∷ 0x05 ∷ 0x06 ∷ 0x0B ∷ 0xAB ∷ 0xB9 ∷ 0xC7 ∷ 0xD8 ∷ []
+
 -- a program without its data
 abbrev pub dataless : List ℕ
 dataless = 0x02 ∷ 0 ∷ 0 ∷ 0 ∷ []
@@ -194,11 +202,15 @@ pub record Chip : Type 0 where
   pub ready-m25p32 : asked (record-of 3 0 false true Standby) 0 true ≡ 0 ∷ 0 ∷ 0 ∷ 0 ∷ 0 ∷ 0 ∷ 0 ∷ 0 ∷ 0 ∷ 0 ∷ 0 ∷ 0 ∷ []
   -- 14: the M25P128 has neither DP nor RES
   pub ready-m25p128 : asked (record-of 4 0 false true Standby) 0 true ≡ 0 ∷ 0 ∷ 0 ∷ 0 ∷ 0 ∷ 0 ∷ 0 ∷ 0 ∷ 0 ∷ 0 ∷ 14 ∷ 14 ∷ []
+  -- 14: the older M25P10-A has no RDID
+  pub ready-older : asked (record-of 5 0 false true Standby) 0 true ≡ 0 ∷ 0 ∷ 14 ∷ 0 ∷ 0 ∷ 0 ∷ 0 ∷ 0 ∷ 0 ∷ 0 ∷ 0 ∷ 0 ∷ []
   -- 12: busy, and not RDSR
   pub busy : asked (record-of 0 0 false true (Busy 1)) 0 true ≡ 12 ∷ 12 ∷ 12 ∷ 0 ∷ 12 ∷ 12 ∷ 12 ∷ 12 ∷ 12 ∷ 12 ∷ 12 ∷ 12 ∷ []
   pub busy-m25p128 : asked (record-of 4 0 false true (Busy 1)) 0 true ≡ 12 ∷ 12 ∷ 12 ∷ 0 ∷ 12 ∷ 12 ∷ 12 ∷ 12 ∷ 12 ∷ 12 ∷ 14 ∷ 14 ∷ []
+  pub busy-older : asked (record-of 5 0 false true (Busy 1)) 0 true ≡ 12 ∷ 12 ∷ 14 ∷ 0 ∷ 12 ∷ 12 ∷ 12 ∷ 12 ∷ 12 ∷ 12 ∷ 12 ∷ 12 ∷ []
   -- 13: deep power-down, and not RES
   pub deep : asked (record-of 0 0 false true Deep) 0 true ≡ 13 ∷ 13 ∷ 13 ∷ 13 ∷ 13 ∷ 13 ∷ 13 ∷ 13 ∷ 13 ∷ 13 ∷ 13 ∷ 0 ∷ []
+  pub deep-older : asked (record-of 5 0 false true Deep) 0 true ≡ 13 ∷ 13 ∷ 14 ∷ 13 ∷ 13 ∷ 13 ∷ 13 ∷ 13 ∷ 13 ∷ 13 ∷ 13 ∷ 0 ∷ []
   -- 15: one further pulse, or seven, where none is needed; with eight the host refuses
   pub pulse : asked usual 1 true ≡ 15 ∷ 15 ∷ 0 ∷ 0 ∷ 15 ∷ 0 ∷ 0 ∷ 15 ∷ 15 ∷ 15 ∷ 15 ∷ 0 ∷ []
   pub pulses : asked usual 7 true ≡ 15 ∷ 15 ∷ 0 ∷ 0 ∷ 15 ∷ 0 ∷ 0 ∷ 15 ∷ 15 ∷ 15 ∷ 15 ∷ 0 ∷ []
@@ -229,6 +241,7 @@ pub record Chip : Type 0 where
   pub codes-m25p40 : known (record-of 2 0 false true Standby) ≡ codes
   pub codes-m25p32 : known (record-of 3 0 false true Standby) ≡ codes
   pub codes-m25p128 : known (record-of 4 0 false true Standby) ≡ sleepless
+  pub codes-older : known (record-of 5 0 false true Standby) ≡ nameless
   pub codes-busy : known (record-of 0 0 false true (Busy 1)) ≡ codes
   pub codes-deep : known (record-of 0 0 false true Deep) ≡ codes
   -- the chip's numbers in order, each with all that can come after it
@@ -251,9 +264,12 @@ chip = record {
   ready-m25p40 = refl;
   ready-m25p32 = refl;
   ready-m25p128 = refl;
+  ready-older = refl;
   busy = refl;
   busy-m25p128 = refl;
+  busy-older = refl;
   deep = refl;
+  deep-older = refl;
   pulse = refl;
   pulses = refl;
   too-many = refl;
@@ -278,6 +294,7 @@ chip = record {
   codes-m25p40 = refl;
   codes-m25p32 = refl;
   codes-m25p128 = refl;
+  codes-older = refl;
   codes-busy = refl;
   codes-deep = refl;
   eleven-first = refl;

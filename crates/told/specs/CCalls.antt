@@ -59,7 +59,7 @@ pub record Told : Type 0 where
   pub waits : map (λ (b : List ℕ). checkedC (λ (d : Device). waitCall d 1) b .answer) (replicate 27 0xFF ∷ replicate 28 0xFF ∷ set-up ∷ []) ≡ 8 ∷ 6 ∷ 0 ∷ []
   pub starts : map (λ (b : List ℕ). checkedC powerUpCall b .answer) (replicate 29 0xFF ∷ replicate 28 0xFF ∷ set-up ∷ []) ≡ 8 ∷ 6 ∷ 0 ∷ []
   -- a delivery in order: 8, 1, 2, 7; what the 28 bytes were does not matter
-  pub deliveries : deliveryC (replicate 27 0xFF) 5 0 0 5 9 2 ∷ deliveryC (replicate 28 0xFF) 5 0 0 5 9 2 ∷ deliveryC (replicate 28 0xFF) 0 0 0 5 9 2 ∷ deliveryC (replicate 28 0xFF) 0 4096 0 5 9 2 ∷ deliveryC (replicate 28 0xFF) 0 4096 3 5 9 2 ∷ [] ≡ 8 ∷ 1 ∷ 2 ∷ 7 ∷ 0 ∷ []
+  pub deliveries : deliveryC (replicate 27 0xFF) 6 0 0 5 9 2 ∷ deliveryC (replicate 28 0xFF) 6 0 0 5 9 2 ∷ deliveryC (replicate 28 0xFF) 0 0 0 5 9 2 ∷ deliveryC (replicate 28 0xFF) 0 4096 0 5 9 2 ∷ deliveryC (replicate 28 0xFF) 0 4096 3 5 9 2 ∷ [] ≡ 8 ∷ 1 ∷ 2 ∷ 7 ∷ 0 ∷ []
   pub given : packedBy 0 (delivered 0 3 5 9 2) (replicate 28 0xFF) ≡ packed 0 0 0 0
   -- the packed bytes after an executed call: a sector erase, the latch reset, deep power-down; a wait; power-up
   pub erases : after set-up (0xD8 ∷ 0 ∷ 0 ∷ 0 ∷ []) ≡ packed 1 1 1 5

@@ -53,18 +53,20 @@ names a b c = silent ∷ drives a ∷ drives b ∷ drives c ∷ drives 0 ∷ dri
 
 -- what each part drives
 pub record Lines : Type 0 where
-  -- RDID
+  -- RDID, which the older M25P10-A does not have
   pub names-bench : line (part 0 0) (sends 0x9F) ≡ names 0x00 0x00 0x0C
   pub names-m25p10a : line (part 1 0) (sends 0x9F) ≡ names 0x20 0x20 0x11
   pub names-m25p40 : line (part 2 0) (sends 0x9F) ≡ names 0x20 0x20 0x13
   pub names-m25p32 : line (part 3 0) (sends 0x9F) ≡ names 0x20 0x20 0x16
   pub names-m25p128 : line (part 4 0) (sends 0x9F) ≡ names 0x20 0x20 0x18
+  pub names-older : line (part 5 0) (sends 0x9F) ≡ mute
   -- RES, which the M25P128 does not have
   pub signs-bench : line (part 0 0) (sends 0xAB) ≡ late 0x0B
   pub signs-m25p10a : line (part 1 0) (sends 0xAB) ≡ late 0x10
   pub signs-m25p40 : line (part 2 0) (sends 0xAB) ≡ late 0x12
   pub signs-m25p32 : line (part 3 0) (sends 0xAB) ≡ late 0x15
   pub signs-m25p128 : line (part 4 0) (sends 0xAB) ≡ mute
+  pub signs-older : line (part 5 0) (sends 0xAB) ≡ late 0x10
   -- RDSR, with the highest BP
   pub status-bench : line (part 0 3) (sends 0x05) ≡ always 0x0E
   pub status-m25p32 : line (part 3 7) (sends 0x05) ≡ always 0x1E
@@ -89,11 +91,13 @@ lines = record {
   names-m25p40 = refl;
   names-m25p32 = refl;
   names-m25p128 = refl;
+  names-older = refl;
   signs-bench = refl;
   signs-m25p10a = refl;
   signs-m25p40 = refl;
   signs-m25p32 = refl;
   signs-m25p128 = refl;
+  signs-older = refl;
   status-bench = refl;
   status-m25p32 = refl;
   reads = refl;
@@ -123,6 +127,7 @@ pub record Turns : Type 0 where
   pub sets-m25p40 : sets 2 ≡ 0 ∷ 1 ∷ 2 ∷ 3 ∷ 4 ∷ 5 ∷ 6 ∷ 7 ∷ 7 ∷ 0 ∷ []
   pub sets-m25p32 : sets 3 ≡ 0 ∷ 1 ∷ 2 ∷ 3 ∷ 4 ∷ 5 ∷ 6 ∷ 7 ∷ 7 ∷ 0 ∷ []
   pub sets-m25p128 : sets 4 ≡ 0 ∷ 1 ∷ 2 ∷ 3 ∷ 4 ∷ 5 ∷ 6 ∷ 7 ∷ 7 ∷ 0 ∷ []
+  pub sets-older : sets 5 ≡ 0 ∷ 1 ∷ 2 ∷ 3 ∷ 0 ∷ 1 ∷ 2 ∷ 3 ∷ 3 ∷ 0 ∷ []
   -- each of the twelve on an M25P32 with SRWD 1; cycles of 2, 3, 5 and 9 ticks
   pub wren : after (record-of 3 2 true false Standby) (0x06 ∷ []) ≡ record-of 3 2 true true Standby
   pub wrdi : after (record-of 3 2 true true Standby) (0x04 ∷ []) ≡ record-of 3 2 true false Standby
@@ -146,6 +151,7 @@ pub record Turns : Type 0 where
   pub dp-m25p128 : after (part 4 0) (0xB9 ∷ []) ≡ part 4 0
   pub dp-m25p40 : after (part 2 0) (0xB9 ∷ []) ≡ record-of 2 0 false true Deep
   pub dp-m25p10a : after (part 1 0) (0xB9 ∷ []) ≡ record-of 1 0 false true Deep
+  pub dp-older : after (part 5 0) (0xB9 ∷ []) ≡ record-of 5 0 false true Deep
 
 -- computed by the checker
 pub turns : Turns
@@ -156,6 +162,7 @@ turns = record {
   sets-m25p40 = refl;
   sets-m25p32 = refl;
   sets-m25p128 = refl;
+  sets-older = refl;
   wren = refl;
   wrdi = refl;
   rdid = refl;
@@ -176,6 +183,7 @@ turns = record {
   dp-m25p128 = refl;
   dp-m25p40 = refl;
   dp-m25p10a = refl;
+  dp-older = refl;
 }
 
 -- ---- addresses, sectors and pages
@@ -222,29 +230,33 @@ pub record Places : Type 0 where
   pub edges-m25p40 : edges 2 1 (0x070000 ∷ 0x060000 ∷ 0x040000 ∷ []) ≡ replicate 3 (0 ∷ 0 ∷ 17 ∷ 17 ∷ [])
   pub edges-m25p32 : edges 3 1 (0x3F0000 ∷ 0x3E0000 ∷ 0x3C0000 ∷ 0x380000 ∷ 0x300000 ∷ 0x200000 ∷ []) ≡ replicate 6 (0 ∷ 0 ∷ 17 ∷ 17 ∷ [])
   pub edges-m25p128 : edges 4 1 (0xFC0000 ∷ 0xF80000 ∷ 0xF00000 ∷ 0xE00000 ∷ 0xC00000 ∷ 0x800000 ∷ []) ≡ replicate 6 (0 ∷ 0 ∷ 17 ∷ 17 ∷ [])
+  pub edges-older : edges 5 1 (0x018000 ∷ 0x010000 ∷ []) ≡ replicate 2 (0 ∷ 0 ∷ 17 ∷ 17 ∷ [])
   -- the first byte for each BP, and the last
   pub first-bench : each 0 four (erase 0) ≡ 0 ∷ 0 ∷ 0 ∷ 17 ∷ []
   pub first-m25p10a : each 1 four (erase 0) ≡ 0 ∷ 0 ∷ 0 ∷ 17 ∷ []
   pub first-m25p40 : each 2 eight (erase 0) ≡ 0 ∷ 0 ∷ 0 ∷ 0 ∷ 17 ∷ 17 ∷ 17 ∷ 17 ∷ []
   pub first-m25p32 : each 3 eight (erase 0) ≡ 0 ∷ 0 ∷ 0 ∷ 0 ∷ 0 ∷ 0 ∷ 0 ∷ 17 ∷ []
   pub first-m25p128 : each 4 eight (erase 0) ≡ 0 ∷ 0 ∷ 0 ∷ 0 ∷ 0 ∷ 0 ∷ 0 ∷ 17 ∷ []
+  pub first-older : each 5 four (erase 0) ≡ 0 ∷ 0 ∷ 0 ∷ 17 ∷ []
   pub last-bench : each 0 four (erase 0x000FFF) ≡ 0 ∷ 17 ∷ 17 ∷ 17 ∷ []
   pub last-m25p10a : each 1 four (erase 0x01FFFF) ≡ 0 ∷ 17 ∷ 17 ∷ 17 ∷ []
   pub last-m25p40 : each 2 eight (erase 0x07FFFF) ≡ 0 ∷ 17 ∷ 17 ∷ 17 ∷ 17 ∷ 17 ∷ 17 ∷ 17 ∷ []
   pub last-m25p32 : each 3 eight (erase 0x3FFFFF) ≡ 0 ∷ 17 ∷ 17 ∷ 17 ∷ 17 ∷ 17 ∷ 17 ∷ 17 ∷ []
   pub last-m25p128 : each 4 eight (erase 0xFFFFFF) ≡ 0 ∷ 17 ∷ 17 ∷ 17 ∷ 17 ∷ 17 ∷ 17 ∷ 17 ∷ []
+  pub last-older : each 5 four (erase 0x01FFFF) ≡ 0 ∷ 17 ∷ 17 ∷ 17 ∷ []
   -- a bulk erase for each BP
   pub bulk-bench : each 0 four (0xC7 ∷ []) ≡ 0 ∷ 17 ∷ 17 ∷ 17 ∷ []
   pub bulk-m25p128 : each 4 eight (0xC7 ∷ []) ≡ 0 ∷ 17 ∷ 17 ∷ 17 ∷ 17 ∷ 17 ∷ 17 ∷ 17 ∷ []
   -- high byte first, modulo the part's size, and so is where protection begins
-  pub address : map (λ (p : ℕ). addressOf (figuresOf p) (0x03 ∷ 0xFD ∷ 0xEC ∷ 0xBA ∷ [])) (0 ∷ 1 ∷ 2 ∷ 3 ∷ 4 ∷ []) ≡ 0x000CBA ∷ 0x01ECBA ∷ 0x05ECBA ∷ 0x3DECBA ∷ 0xFDECBA ∷ []
-  pub beyond : edge (part 0 1) 0xFFFC00 ∷ edge (part 1 1) 0xFF8000 ∷ edge (part 2 1) 0xFF0000 ∷ edge (part 3 1) 0xFF0000 ∷ edge (part 4 1) 0xFC0000 ∷ [] ≡ replicate 5 (0 ∷ 0 ∷ 17 ∷ 17 ∷ [])
+  pub address : map (λ (p : ℕ). addressOf (figuresOf p) (0x03 ∷ 0xFD ∷ 0xEC ∷ 0xBA ∷ [])) (0 ∷ 1 ∷ 2 ∷ 3 ∷ 4 ∷ 5 ∷ []) ≡ 0x000CBA ∷ 0x01ECBA ∷ 0x05ECBA ∷ 0x3DECBA ∷ 0xFDECBA ∷ 0x01ECBA ∷ []
+  pub beyond : edge (part 0 1) 0xFFFC00 ∷ edge (part 1 1) 0xFF8000 ∷ edge (part 2 1) 0xFF0000 ∷ edge (part 3 1) 0xFF0000 ∷ edge (part 4 1) 0xFC0000 ∷ edge (part 5 1) 0xFF8000 ∷ [] ≡ replicate 6 (0 ∷ 0 ∷ 17 ∷ 17 ∷ [])
   -- SE: the second sector becomes FF, by its last byte's address; the bytes on either side stay
   pub sector-bench : become 0 (erase 0x0007FF) (0x0003FF ∷ 0x000400 ∷ 0x0007FF ∷ 0x000800 ∷ []) ≡ 0x3C ∷ 0xFF ∷ 0xFF ∷ 0x3C ∷ []
   pub sector-m25p10a : become 1 (erase 0x00FFFF) (0x007FFF ∷ 0x008000 ∷ 0x00FFFF ∷ 0x010000 ∷ []) ≡ 0x3C ∷ 0xFF ∷ 0xFF ∷ 0x3C ∷ []
   pub sector-m25p40 : become 2 (erase 0x01FFFF) (0x00FFFF ∷ 0x010000 ∷ 0x01FFFF ∷ 0x020000 ∷ []) ≡ 0x3C ∷ 0xFF ∷ 0xFF ∷ 0x3C ∷ []
   pub sector-m25p32 : become 3 (erase 0x01FFFF) (0x00FFFF ∷ 0x010000 ∷ 0x01FFFF ∷ 0x020000 ∷ []) ≡ 0x3C ∷ 0xFF ∷ 0xFF ∷ 0x3C ∷ []
   pub sector-m25p128 : become 4 (erase 0x07FFFF) (0x03FFFF ∷ 0x040000 ∷ 0x07FFFF ∷ 0x080000 ∷ []) ≡ 0x3C ∷ 0xFF ∷ 0xFF ∷ 0x3C ∷ []
+  pub sector-older : become 5 (erase 0x00FFFF) (0x007FFF ∷ 0x008000 ∷ 0x00FFFF ∷ 0x010000 ∷ []) ≡ 0x3C ∷ 0xFF ∷ 0xFF ∷ 0x3C ∷ []
   -- PP: 5A at the page's last byte, F0 at its first, anded; the bytes between and those on either side stay
   pub page-bench : become 0 (program 0x0001FF) (0x0000FF ∷ 0x000100 ∷ 0x000101 ∷ 0x0001FF ∷ 0x000200 ∷ []) ≡ 0x3C ∷ 0x30 ∷ 0x3C ∷ 0x18 ∷ 0x3C ∷ []
   pub page-m25p128 : become 4 (program 0xFFFFFF) (0xFFFEFF ∷ 0xFFFF00 ∷ 0xFFFF01 ∷ 0xFFFFFF ∷ 0x000000 ∷ []) ≡ 0x3C ∷ 0x30 ∷ 0x3C ∷ 0x18 ∷ 0x3C ∷ []
@@ -267,16 +279,19 @@ places = record {
   edges-m25p40 = refl;
   edges-m25p32 = refl;
   edges-m25p128 = refl;
+  edges-older = refl;
   first-bench = refl;
   first-m25p10a = refl;
   first-m25p40 = refl;
   first-m25p32 = refl;
   first-m25p128 = refl;
+  first-older = refl;
   last-bench = refl;
   last-m25p10a = refl;
   last-m25p40 = refl;
   last-m25p32 = refl;
   last-m25p128 = refl;
+  last-older = refl;
   bulk-bench = refl;
   bulk-m25p128 = refl;
   address = refl;
@@ -286,6 +301,7 @@ places = record {
   sector-m25p40 = refl;
   sector-m25p32 = refl;
   sector-m25p128 = refl;
+  sector-older = refl;
   page-bench = refl;
   page-m25p128 = refl;
   bulk = refl;

@@ -119,9 +119,9 @@ borders = 0 ∷ 1 ∷ 1000000 ∷ 1000001 ∷ []
 abbrev pub withBP : ℕ → List ℕ
 withBP p = map (λ (b : ℕ). soundAnswer (of p b false false Standby)) (0 ∷ 1 ∷ 2 ∷ 3 ∷ 4 ∷ 5 ∷ 6 ∷ 7 ∷ 8 ∷ [])
 
--- the answers for parts 0 to 5, and 255, in a mode
+-- the answers for parts 0 to 6, and 255, in a mode
 abbrev pub withPart : Bool → Mode → List ℕ
-withPart l m = map (λ (p : ℕ). soundAnswer (of p 0 false l m)) (0 ∷ 1 ∷ 2 ∷ 3 ∷ 4 ∷ 5 ∷ 255 ∷ [])
+withPart l m = map (λ (p : ℕ). soundAnswer (of p 0 false l m)) (0 ∷ 1 ∷ 2 ∷ 3 ∷ 4 ∷ 5 ∷ 6 ∷ 255 ∷ [])
 
 -- which records are sound, and their status bytes
 pub record Soundness : Type 0 where
@@ -131,19 +131,20 @@ pub record Soundness : Type 0 where
   pub bulk-erase : map (λ (x : ℕ). soundAnswer (delivered 0 3 5 x 2)) borders ≡ 6 ∷ 0 ∷ 0 ∷ 6 ∷ []
   pub write-status : map (λ (x : ℕ). soundAnswer (delivered 0 3 5 9 x)) borders ≡ 6 ∷ 0 ∷ 0 ∷ 6 ∷ []
   pub ticks : map (λ (x : ℕ). soundAnswer (of 4 7 false true (Busy x))) borders ≡ 6 ∷ 0 ∷ 0 ∷ 6 ∷ []
-  -- the highest BP is 3, 3, 7, 7, 7
+  -- the highest BP is 3, 3, 7, 7, 7, 3
   pub bp-bench : withBP 0 ≡ 0 ∷ 0 ∷ 0 ∷ 0 ∷ 6 ∷ 6 ∷ 6 ∷ 6 ∷ 6 ∷ []
   pub bp-m25p10a : withBP 1 ≡ 0 ∷ 0 ∷ 0 ∷ 0 ∷ 6 ∷ 6 ∷ 6 ∷ 6 ∷ 6 ∷ []
   pub bp-m25p40 : withBP 2 ≡ 0 ∷ 0 ∷ 0 ∷ 0 ∷ 0 ∷ 0 ∷ 0 ∷ 0 ∷ 6 ∷ []
   pub bp-m25p32 : withBP 3 ≡ 0 ∷ 0 ∷ 0 ∷ 0 ∷ 0 ∷ 0 ∷ 0 ∷ 0 ∷ 6 ∷ []
   pub bp-m25p128 : withBP 4 ≡ 0 ∷ 0 ∷ 0 ∷ 0 ∷ 0 ∷ 0 ∷ 0 ∷ 0 ∷ 6 ∷ []
-  -- the part is 0 to 4, a busy record has its latch set, and the M25P128 is not in deep power-down
-  pub standby : withPart false Standby ≡ 0 ∷ 0 ∷ 0 ∷ 0 ∷ 0 ∷ 6 ∷ 6 ∷ []
-  pub standby-latch : withPart true Standby ≡ 0 ∷ 0 ∷ 0 ∷ 0 ∷ 0 ∷ 6 ∷ 6 ∷ []
-  pub busy-latch : withPart true (Busy 1) ≡ 0 ∷ 0 ∷ 0 ∷ 0 ∷ 0 ∷ 6 ∷ 6 ∷ []
-  pub busy-reset : withPart false (Busy 1) ≡ 6 ∷ 6 ∷ 6 ∷ 6 ∷ 6 ∷ 6 ∷ 6 ∷ []
-  pub deep-latch : withPart true Deep ≡ 0 ∷ 0 ∷ 0 ∷ 0 ∷ 6 ∷ 6 ∷ 6 ∷ []
-  pub deep-reset : withPart false Deep ≡ 0 ∷ 0 ∷ 0 ∷ 0 ∷ 6 ∷ 6 ∷ 6 ∷ []
+  pub bp-older : withBP 5 ≡ 0 ∷ 0 ∷ 0 ∷ 0 ∷ 6 ∷ 6 ∷ 6 ∷ 6 ∷ 6 ∷ []
+  -- the part is 0 to 5, a busy record has its latch set, and the M25P128 is not in deep power-down
+  pub standby : withPart false Standby ≡ 0 ∷ 0 ∷ 0 ∷ 0 ∷ 0 ∷ 0 ∷ 6 ∷ 6 ∷ []
+  pub standby-latch : withPart true Standby ≡ 0 ∷ 0 ∷ 0 ∷ 0 ∷ 0 ∷ 0 ∷ 6 ∷ 6 ∷ []
+  pub busy-latch : withPart true (Busy 1) ≡ 0 ∷ 0 ∷ 0 ∷ 0 ∷ 0 ∷ 0 ∷ 6 ∷ 6 ∷ []
+  pub busy-reset : withPart false (Busy 1) ≡ 6 ∷ 6 ∷ 6 ∷ 6 ∷ 6 ∷ 6 ∷ 6 ∷ 6 ∷ []
+  pub deep-latch : withPart true Deep ≡ 0 ∷ 0 ∷ 0 ∷ 0 ∷ 6 ∷ 0 ∷ 6 ∷ 6 ∷ []
+  pub deep-reset : withPart false Deep ≡ 0 ∷ 0 ∷ 0 ∷ 0 ∷ 6 ∷ 0 ∷ 6 ∷ 6 ∷ []
   pub all-zero : soundAnswer zeroRecord ≡ 6
   -- 'Status byte': bit 7 SRWD, bits 4 to 2 BP, bit 1 the latch, bit 0 set while busy
   pub bits-bp : map (λ (b : ℕ). statusByte (of 3 b false false Standby)) (0 ∷ 1 ∷ 2 ∷ 3 ∷ 4 ∷ 5 ∷ 6 ∷ 7 ∷ []) ≡ 0x00 ∷ 0x04 ∷ 0x08 ∷ 0x0C ∷ 0x10 ∷ 0x14 ∷ 0x18 ∷ 0x1C ∷ []
@@ -167,6 +168,7 @@ soundness = record {
   bp-m25p40 = refl;
   bp-m25p32 = refl;
   bp-m25p128 = refl;
+  bp-older = refl;
   standby = refl;
   standby-latch = refl;
   busy-latch = refl;
@@ -220,8 +222,8 @@ pub record Packings : Type 0 where
   pub modes-deep : map (λ (m : ℕ). damaged deepBytes m 4) (0 ∷ 1 ∷ 2 ∷ 3 ∷ []) ≡ 0 ∷ 6 ∷ 0 ∷ 6 ∷ []
   pub modes-still : map (λ (m : ℕ). damaged stillBytes m 4) (0 ∷ 1 ∷ 2 ∷ 3 ∷ []) ≡ 0 ∷ 6 ∷ 6 ∷ 6 ∷ []
   pub latch-reset : damaged busyBytes 0 3 ≡ 6
-  -- a deep M25P32 as other parts: BP 6 is too high for the first two, and the M25P128 is never deep
-  pub parts : map (λ (p : ℕ). damaged deepBytes p 0) (0 ∷ 1 ∷ 2 ∷ 3 ∷ 4 ∷ 5 ∷ []) ≡ 6 ∷ 6 ∷ 0 ∷ 0 ∷ 6 ∷ 6 ∷ []
+  -- a deep M25P32 as other parts: BP 6 is too high for the bench part and both M25P10-A, and the M25P128 is never deep
+  pub parts : map (λ (p : ℕ). damaged deepBytes p 0) (0 ∷ 1 ∷ 2 ∷ 3 ∷ 4 ∷ 5 ∷ 6 ∷ []) ≡ 6 ∷ 6 ∷ 0 ∷ 0 ∷ 6 ∷ 6 ∷ 6 ∷ []
 
 -- computed by the checker
 pub packings : Packings

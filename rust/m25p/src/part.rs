@@ -16,6 +16,8 @@ pub enum Part {
     M25p32,
     /// M25P128, 16,777,216 bytes.
     M25p128,
+    /// The M25P10-A before process technology X and Y, 131,072 bytes: it has no Read Identification (9F).
+    M25p10aOlder,
 }
 
 /// The figures of a part.
@@ -32,8 +34,8 @@ const fn row(number: u32, name: &'static str, bytes: usize, highest_bp: u8) -> R
 
 impl Part {
     /// All parts, by number.
-    pub const ALL: [Part; 5] =
-        [Part::Bench, Part::M25p10a, Part::M25p40, Part::M25p32, Part::M25p128];
+    pub const ALL: [Part; 6] =
+        [Part::Bench, Part::M25p10a, Part::M25p40, Part::M25p32, Part::M25p128, Part::M25p10aOlder];
 
     const fn row(self) -> Row {
         match self {
@@ -42,10 +44,11 @@ impl Part {
             Part::M25p40 => row(2, "M25P40", 524_288, 7),
             Part::M25p32 => row(3, "M25P32", 4_194_304, 7),
             Part::M25p128 => row(4, "M25P128", 16_777_216, 7),
+            Part::M25p10aOlder => row(5, "M25P10-A-older", 131_072, 3),
         }
     }
 
-    /// The name, as on the chip.
+    /// The name, as on the chip; `-older` tells the two M25P10-A apart.
     pub const fn name(self) -> &'static str {
         self.row().name
     }

@@ -16,7 +16,7 @@ fn refused_deliveries() {
     let none = Durations { program: 0, ..Durations::default() };
     assert_eq!(Chip::deliver(Part::M25p128, none).err(), Some(Answer::Duration));
     let (mut record, mut array) = ([0; RECORD_BYTES], []);
-    let reply = calls::deliver(&mut record, 5, &mut array, Durations::default());
+    let reply = calls::deliver(&mut record, 6, &mut array, Durations::default());
     assert_eq!((reply.answer(), record), (Answer::UnknownPart, [0; RECORD_BYTES]));
 }
 
@@ -86,9 +86,9 @@ fn parts_and_answers() {
         }
         assert!(Chip::deliver(part, Durations::default()).is_ok());
     }
-    assert_eq!(Part::numbered(5), None);
+    assert_eq!(Part::numbered(6), None);
     let refusal = "M25P64".parse::<Part>().unwrap_err();
-    let sentence = "There is no part M25P64; the parts are 0 bench, 1 M25P10-A, 2 M25P40, 3 M25P32, 4 M25P128.";
+    let sentence = "There is no part M25P64; the parts are 0 bench, 1 M25P10-A, 2 M25P40, 3 M25P32, 4 M25P128, 5 M25P10-A-older.";
     assert_eq!(refusal.to_string(), sentence);
     let mut before = None;
     for answer in Answer::ALL {

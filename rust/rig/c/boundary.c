@@ -1,5 +1,6 @@
 /* boundary.c - the C calls at their limits: empty slices with and without an address, lengths beyond 32
- * bits, full 32-bit numbers. Prints one line for each call: its name, answer number, first and count. */
+ * bits, full 32-bit numbers, every part. Prints one line for each call: its name, answer number, first and
+ * count; of each part one line: the answers of delivery, RDID and RES, and what the two drive. */
 #define _GNU_SOURCE
 #include <stdio.h>
 #include <string.h>
@@ -7,7 +8,7 @@
 
 #include "m25p.h"
 
-/* More than 2^32 bytes of address space, of which next to nothing is touched. */
+/* More than 2^32 bytes of address space, of which at most 16 MiB are touched. */
 static const size_t HUGE_BYTES = ((size_t)1 << 32) + 8192;
 
 static uint8_t record[M25P_RECORD_BYTES];
@@ -131,6 +132,35 @@ static void pins(void)
     show("short output", probe(samples, 3, response, 2));
 }
 
+/* Every part by its name and size in the header: what delivery, RDID and RES answer, and what the two drive. */
+static void parts(void)
+{
+    static const struct {
+        const char *name;
+        uint32_t part;
+        size_t bytes;
+    } all[] = {
+        {"bench", M25P_BENCH, M25P_BENCH_BYTES},
+        {"M25P10-A", M25P_M25P10A, M25P_M25P10A_BYTES},
+        {"M25P40", M25P_M25P40, M25P_M25P40_BYTES},
+        {"M25P32", M25P_M25P32, M25P_M25P32_BYTES},
+        {"M25P128", M25P_M25P128, M25P_M25P128_BYTES},
+        {"older M25P10-A", M25P_M25P10A_OLDER, M25P_M25P10A_OLDER_BYTES},
+    };
+    const uint8_t identify[4] = {0x9F}, release[5] = {0xAB};
+    uint8_t named[4], signed_by[5];
+    printf("parts\n");
+    for (size_t i = 0; i < sizeof all / sizeof all[0]; i++) {
+        size_t n = all[i].bytes;
+        uint64_t delivered = m25p_deliver(record, sizeof record, all[i].part, huge, n, 3, 5, 9, 2);
+        uint64_t rdid = m25p_transact(record, sizeof record, huge, n, identify, 4, 0, 1, named, 4);
+        uint64_t res = m25p_transact(record, sizeof record, huge, n, release, 5, 0, 1, signed_by, 5);
+        printf("%s: %u %u %u, %02X %02X %02X, %02X\n", all[i].name, m25p_answer(delivered), m25p_answer(rdid),
+               m25p_answer(res), named[1], named[2], named[3], signed_by[4]);
+    }
+    show("part 6", m25p_deliver(record, sizeof record, 6, huge, M25P_M25P10A_OLDER_BYTES, 3, 5, 9, 2));
+}
+
 int main(void)
 {
     huge = mmap(NULL, HUGE_BYTES, PROT_READ | PROT_WRITE, MAP_PRIVATE | MAP_ANONYMOUS | MAP_NORESERVE, -1, 0);
@@ -144,6 +174,7 @@ int main(void)
     full_numbers();
     longest();
     pins();
+    parts();
     sent[0] = 0x05;
     empty("NULL", NULL);
     return 0;

@@ -187,10 +187,11 @@ impl Pair {
         for (real, modelled) in self.real.filled.iter().zip(&self.modelled.filled) {
             same("filled", 0, real, modelled)?;
         }
-        if self.part <= 1 || touches_all(&step.call, seen.answer()) || calls % INTERVAL == 0 {
+        let part = &PARTS[self.part];
+        let small = part.bytes <= 131_072;
+        if small || touches_all(&step.call, seen.answer()) || calls % INTERVAL == 0 {
             return self.compare_array();
         }
-        let part = &PARTS[self.part];
         self.compare_window(0, END)?;
         self.compare_window(part.bytes - END, part.bytes + SPARE)?;
         match &step.call {

@@ -41,6 +41,8 @@ pub const CHIP: &[(&str, &dyn Model)] = named![
     ZeroBytesUnchecked,
     DurationBeforeLength,
     PowerUpKeepsDeep,
+    OlderIdentifies,
+    NeitherIdentifies,
 ];
 
 /// Changes a packed record that is sound.
@@ -205,6 +207,24 @@ struct WCutToAByte;
 impl Model for WCutToAByte {
     fn frozen(&self, r: &Record, w: u32) -> bool {
         Paper.frozen(r, w & 0xFF)
+    }
+}
+
+/// 9F is an instruction of the older M25P10-A too.
+struct OlderIdentifies;
+
+impl Model for OlderIdentifies {
+    fn known(&self, part: &Part, code: u8) -> bool {
+        code == RDID || Paper.known(part, code)
+    }
+}
+
+/// 9F is an instruction of no M25P10-A.
+struct NeitherIdentifies;
+
+impl Model for NeitherIdentifies {
+    fn known(&self, part: &Part, code: u8) -> bool {
+        (code != RDID || part.bytes != 131_072) && Paper.known(part, code)
     }
 }
 

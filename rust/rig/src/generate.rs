@@ -75,16 +75,21 @@ impl Generator {
         self.rng.pick(&[0, 1, 2, left - 1, left, left, left + 1, left / 2, u32::MAX, random])
     }
 
-    /// A delivery; on the large parts it is mostly one that gets refused, as filling takes its time.
+    /// Whether filling the array takes its time.
+    fn large(&self) -> bool {
+        PARTS[self.part].bytes >= 4_194_304
+    }
+
+    /// A delivery; on the large parts it is mostly one that gets refused.
     fn delivery(&mut self, odd: bool) -> Call {
         let mut durations = [0; 4].map(|_| self.duration());
-        if odd || self.part >= 3 && !self.rng.one_in(20) {
+        if odd || self.large() && !self.rng.one_in(20) {
             let wrong = [0, 1_000_001, 0x8000_0001, u32::MAX, self.rng.draw() as u32];
             durations[self.rng.below(4)] = self.rng.pick(&wrong);
         }
         let mut part = self.part as u32;
         if odd && self.rng.one_in(2) {
-            part = self.rng.pick(&[0, 1, 2, 3, 4, 5, 6, 255, 256, 0x1_0000, u32::MAX]);
+            part = self.rng.pick(&[0, 1, 2, 3, 4, 5, 6, 7, 255, 256, 0x1_0000, u32::MAX]);
         }
         Call::Deliver { part, durations }
     }
@@ -147,7 +152,7 @@ impl Generator {
             2..=10 => self.rng.pick(&CODES),
             _ => likely,
         };
-        if code == BE && self.part >= 3 && !self.rng.one_in(10) {
+        if code == BE && self.large() && !self.rng.one_in(10) {
             return PP;
         }
         code
@@ -218,7 +223,8 @@ impl Generator {
 
     /// A sound record of the part.
     fn record_of(&mut self, part: usize) -> Record {
-        let deep = if part == 4 { Mode::Standby } else { Mode::Deep };
+        let sleeps = PARTS[part].signature.is_some();
+        let deep = if sleeps { Mode::Deep } else { Mode::Standby };
         let busy = Mode::Busy(self.duration());
         let mode = self.rng.pick(&[Mode::Standby, Mode::Standby, Mode::Standby, busy, deep]);
         let highest = PARTS[part].highest_bp as usize;
@@ -246,7 +252,7 @@ impl Generator {
             1 => self.rng.fill(&mut bytes),
             2 => bytes[at] ^= 1 << self.rng.below(8),
             3 => bytes[at] = self.rng.byte(),
-            4 => bytes[self.rng.below(8)] = self.rng.pick(&[0, 1, 2, 3, 4, 5, 7, 8, 255]),
+            4 => bytes[self.rng.below(8)] = self.rng.pick(&[0, 1, 2, 3, 4, 5, 6, 7, 8, 255]),
             5 => {
                 let field = 8 + 4 * self.rng.below(5);
                 let number = self.rng.pick(&wrong);
@@ -259,7 +265,7 @@ impl Generator {
     }
 
     fn sound_record_of_any(&mut self) -> Record {
-        let part = self.rng.below(5);
+        let part = self.rng.below(PARTS.len());
         self.record_of(part)
     }
 }

@@ -5,7 +5,7 @@
 mod part;
 mod record;
 
-pub use part::{Part, PARTS};
+pub use part::{Part, PARTS, SMALL};
 pub use record::{is_duration, Mode, Packed, Record, RECORD_BYTES};
 
 pub const WREN: u8 = 0x06;
@@ -63,7 +63,7 @@ pub trait Model: Sync {
         if record.len() != RECORD_BYTES {
             return Outcome::only(8);
         }
-        if part > 4 {
+        if part > 5 {
             return Outcome::only(1);
         }
         if array.len() != PARTS[part as usize].bytes {
@@ -189,7 +189,7 @@ pub trait Model: Sync {
         }
         let code = t.sent[0];
         match number {
-            14 => !known(r.figures(), code),
+            14 => !self.known(r.figures(), code),
             12 => matches!(r.mode, Mode::Busy(_)) && code != RDSR,
             13 => r.mode == Mode::Deep && code != RES,
             15 => !as_needed(code, n, t.pulses),
@@ -197,6 +197,15 @@ pub trait Model: Sync {
             17 => self.protected(r, t),
             18 => code == WRSR && self.frozen(r, t.w),
             _ => false,
+        }
+    }
+
+    /// Whether the code is an instruction of the part.
+    fn known(&self, part: &Part, code: u8) -> bool {
+        match code {
+            RDID => part.identification.is_some(),
+            DP | RES => part.signature.is_some(),
+            _ => CODES.contains(&code),
         }
     }
 
@@ -234,7 +243,7 @@ pub trait Model: Sync {
     fn driven(&self, r: &Record, array: &[u8], sent: &[u8], i: usize) -> Option<u8> {
         let part = r.figures();
         match sent[0] {
-            RDID if (1..4).contains(&i) => Some(part.identification[i - 1]),
+            RDID if (1..4).contains(&i) => part.identification.map(|three| three[i - 1]),
             RDID if i >= 4 => Some(0x00),
             RDSR if i >= 1 => Some(r.status()),
             READ if i >= 4 => Some(self.read(array, address(part, sent) + i - 4)),
@@ -329,14 +338,6 @@ impl Model for Paper {}
 pub fn in_protected_sector(r: &Record, address: usize) -> bool {
     let part = r.figures();
     address / part.sector_bytes >= part.sectors - part.protected[r.bp as usize]
-}
-
-/// Whether the code is an instruction of the part.
-fn known(part: &Part, code: u8) -> bool {
-    match code {
-        DP | RES => part.signature.is_some(),
-        _ => CODES.contains(&code),
-    }
 }
 
 /// Whether n and the further pulses are as the instruction needs.

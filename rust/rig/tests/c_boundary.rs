@@ -193,6 +193,14 @@ raw pins
 rest: 0 0 0
 bit 7: 21 0 0
 short output: 23 0 0
+parts
+bench: 0 0 0, 00 00 0C, 0B
+M25P10-A: 0 0 0, 20 20 11, 10
+M25P40: 0 0 0, 20 20 13, 12
+M25P32: 0 0 0, 20 20 16, 15
+M25P128: 0 0 14, 20 20 18, FF
+older M25P10-A: 0 14 0, FF FF FF, 10
+part 6: 1 0 0
 ";
 
 #[test]

@@ -1,10 +1,10 @@
-//! libm25p.a against the model, over all five parts. RIG_CALLS and RIG_SEED make it longer or another.
+//! libm25p.a against the model, over all six parts. RIG_CALLS and RIG_SEED make it longer or another.
 
 use m25p::Answer;
 use rig::compare::{episode, Rules, Tally, PAPER};
 use rig::faults;
 use rig::generate::Generator;
-use rig::model::CODES;
+use rig::model::{CODES, PARTS, SMALL};
 use rig::rng::Rng;
 use rig::tell;
 
@@ -12,7 +12,7 @@ const DEFAULT_CALLS: u64 = 1_000_000;
 const DEFAULT_SEED: u64 = 1;
 
 /// Calls of one episode, by part: filling and comparing the large arrays takes its time.
-const EPISODE: [u64; 5] = [500, 1_000, 2_000, 5_000, 25_000];
+const EPISODE: [u64; PARTS.len()] = [500, 1_000, 2_000, 5_000, 25_000, 1_000];
 
 fn number(name: &str, default: u64) -> u64 {
     match std::env::var(name) {
@@ -29,7 +29,7 @@ fn calls_equal_model() {
     let mut seeds = Rng::new(seed);
     let mut tally = Tally::default();
     for (part, length) in EPISODE.into_iter().enumerate() {
-        let end = calls * (part as u64 + 1) / 5;
+        let end = calls * (part as u64 + 1) / PARTS.len() as u64;
         while tally.calls < end {
             let seed = seeds.draw();
             if let Err(difference) = episode::<Generator>(part, length, seed, PAPER, &mut tally) {
@@ -57,7 +57,7 @@ fn faults_are_seen() {
         let mut seeds = Rng::new(DEFAULT_SEED);
         let mut tally = Tally::default();
         let seen = (0..40).any(|i| {
-            let part = i % 3;
+            let part = SMALL[i % SMALL.len()];
             episode::<Generator>(part, EPISODE[part], seeds.draw(), rules, &mut tally).is_err()
         });
         assert!(seen, "{name} was not seen in {} calls", tally.calls);

@@ -1,4 +1,5 @@
-//! The model on the worked cases K1 to K15, and the bench model on the worked example.
+//! The model on the worked cases K1 to K15 and on those of the older M25P10-A, and the bench model on the
+//! worked example.
 
 use rig::bench_model::{self, Line};
 use rig::model::{Mode, Model, Outcome, Packed, Paper, Record, Transaction};
@@ -155,6 +156,26 @@ fn k14_no_signature() {
 fn k15_latch_before_protection() {
     let mut chip = case(Record { latch: false, bp: 3, ..worked() });
     assert_eq!(chip.answer(&[0xD8, 0, 0, 0]), 16);
+}
+
+/// 9F gives 14 and drives nothing, whatever the mode; RES drives 10, and releases from deep power-down.
+#[test]
+fn older_m25p10a() {
+    let standby = Record { latch: true, ..Record::standby(5) };
+    let busy = Record { mode: Mode::Busy(3), ..standby };
+    let deep = Record { mode: Mode::Deep, ..standby };
+    for record in [standby, busy, deep] {
+        let mut chip = case(record);
+        assert_eq!(chip.answer(&[0x9F, 0, 0, 0]), 14);
+        assert_eq!((chip.response.as_slice(), chip.now()), (&[0xFF; 4][..], record));
+    }
+    assert_eq!(case(busy).answer(&[0xAB]), 12);
+    for record in [standby, deep] {
+        let mut chip = case(record);
+        let outcome = chip.run(&[0xAB, 0, 0, 0, 0], 0, 1);
+        assert_eq!((outcome.answer, outcome.first, outcome.count), (0, 4, 1));
+        assert_eq!((chip.response[4], chip.now()), (0x10, standby));
+    }
 }
 
 #[test]

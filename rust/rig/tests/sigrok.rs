@@ -137,10 +137,10 @@ fn records(part: u8) -> Vec<Record> {
     let standby = Record { bp: 1, srwd: true, ..Record::standby(part) };
     let busy = Record { latch: true, mode: Mode::Busy(7), ..standby };
     let deep = Record { mode: Mode::Deep, ..standby };
-    if part == 4 {
-        vec![standby, busy]
-    } else {
+    if PARTS[part as usize].signature.is_some() {
         vec![standby, busy, deep]
+    } else {
+        vec![standby, busy]
     }
 }
 

@@ -15,7 +15,7 @@ use std::thread;
 use common::scratch;
 use flashrom::{find, tell, Flashrom};
 use m25p::{Part, RECORD_BYTES};
-use rig::model::{Model, Paper, Transaction, PARTS};
+use rig::model::{Model, Paper, Transaction};
 use rig::rng::Rng;
 use tools::serprog::{Options, Server};
 
@@ -34,12 +34,12 @@ impl Write for Trace {
 }
 
 /// The trace of a probe and a write, from one image to another; none without flashrom.
-fn traced(old: &[u8], new: &[u8]) -> Option<String> {
+fn traced(name: &str, part: Part, old: &[u8], new: &[u8]) -> Option<String> {
     let program = find("trace")?;
-    let directory = scratch("flashrom_trace");
+    let directory = scratch(&format!("flashrom_trace_{name}"));
     let image = directory.join("chip.bin");
     std::fs::write(&image, old).unwrap();
-    let options = Options { image: Some(image.clone()), ..Options::of(Part::M25p10a) };
+    let options = Options { image: Some(image.clone()), ..Options::of(part) };
     let mut server = Server::start(&options).unwrap();
     let trace = Trace::default();
     server.trace(Box::new(trace.clone()));
@@ -48,7 +48,7 @@ fn traced(old: &[u8], new: &[u8]) -> Option<String> {
     let ended = thread::scope(|scope| {
         let served = scope.spawn(|| server.run(&stop, |sentence| panic!("{sentence}")));
         let probed = flashrom.run(&[], None);
-        let written = flashrom.write("M25P10-A", new);
+        let written = flashrom.write(name, new);
         stop.store(true, Ordering::Relaxed);
         [probed, written, (served.join().unwrap().is_ok(), "the server".to_string())]
     });
@@ -82,20 +82,33 @@ fn model_answer(record: &mut [u8], array: &mut [u8], line: &str) -> String {
 }
 
 /// All that flashrom asks for in a probe and a write, asked of the model: the same answers.
-#[test]
-fn trace_equals_model() {
-    let bytes = PARTS[1].bytes;
-    let (old, new) = (Rng::new(10).bytes(bytes), Rng::new(11).bytes(bytes));
-    let Some(printed) = traced(&old, &new) else { return };
-    let (mut record, mut array) = ([0; RECORD_BYTES], old.clone());
-    Paper.deliver(&mut record, 1, &mut array, [2, 1_000, 10_000, 5]);
-    array.copy_from_slice(&old);
+fn same_answers(name: &str, part: Part, old: &[u8], new: &[u8]) {
+    let Some(printed) = traced(name, part, old, new) else { return };
+    let (mut record, mut array) = ([0; RECORD_BYTES], old.to_vec());
+    Paper.deliver(&mut record, part.number(), &mut array, [2, 1_000, 10_000, 5]);
+    array.copy_from_slice(old);
     for line in printed.lines() {
         let (asked, answered) = line.split_once(" = ").expect("a line of the trace");
         assert_eq!(model_answer(&mut record, &mut array, asked), answered, "{asked}");
     }
     assert!(array == new);
     let transactions = printed.lines().filter(|line| line.starts_with('x')).count();
-    assert!(transactions > 3 * bytes / 256, "only {transactions} transactions");
-    tell(&format!("trace: {transactions} transactions, the same answers from the model"));
+    assert!(transactions > 3 * old.len() / 256, "only {transactions} transactions");
+    tell(&format!("trace: {name}: {transactions} transactions, the same answers from the model"));
+}
+
+#[test]
+fn trace_equals_model() {
+    let bytes = Part::M25p10a.bytes();
+    let (old, new) = (Rng::new(10).bytes(bytes), Rng::new(11).bytes(bytes));
+    same_answers("M25P10-A", Part::M25p10a, &old, &new);
+}
+
+/// The older one is found by its signature, and written byte by byte, a thousand bytes.
+#[test]
+fn trace_of_the_older_equals_model() {
+    let bytes = Part::M25p10aOlder.bytes();
+    let (old, mut new) = (Rng::new(12).bytes(bytes), vec![0xFF; bytes]);
+    Rng::new(13).fill(&mut new[40_000..41_000]);
+    same_answers("M25P10", Part::M25p10aOlder, &old, &new);
 }

@@ -10,6 +10,7 @@ use std::time::Instant;
 use m25p::Part;
 use support::flashrom::{find, tell, Flashrom};
 use support::{rng::Rng, scratch, Server};
+use tools::serprog::PARTS;
 
 /// A server and what flashrom needs to talk to it.
 struct Bench {
@@ -48,6 +49,11 @@ impl Bench {
     }
 }
 
+/// The part that flashrom knows by this name.
+fn named(name: &str) -> Part {
+    PARTS.into_iter().find(|(known, _)| *known == name).unwrap().1
+}
+
 /// Pages of random bytes here and there, and in the first and the last place; else FF.
 fn sparse(bytes: usize, seed: u64) -> Vec<u8> {
     let mut rng = Rng::new(seed);
@@ -59,10 +65,15 @@ fn sparse(bytes: usize, seed: u64) -> Vec<u8> {
     contents
 }
 
-/// Probe, read, write, verify, read back, write with one byte changed, erase.
-fn life(part: Part) {
-    let (part, bytes) = (part.name(), part.bytes());
-    let first = Rng::new(1).bytes(bytes);
+/// Random bytes all over.
+fn full(bytes: usize, seed: u64) -> Vec<u8> {
+    Rng::new(seed).bytes(bytes)
+}
+
+/// Probe, read, write, verify, read back, write with one byte changed, erase; with contents of this form.
+fn life(part: &str, form: fn(usize, u64) -> Vec<u8>) {
+    let bytes = named(part).bytes();
+    let first = form(bytes, 1);
     let Some(bench) = Bench::new("life", part, &first, &[]) else { return };
     let start = Instant::now();
     let probe = bench.flashrom.succeed(&[], None);
@@ -71,7 +82,7 @@ fn life(part: Part) {
     assert!(found[0].contains(&format!("\"{part}\"")), "{probe}");
     assert!(bench.read(part) == first, "read");
 
-    let mut second = Rng::new(2).bytes(bytes);
+    let mut second = form(bytes, 2);
     let writing = Instant::now();
     let (fine, said) = bench.flashrom.write(part, &second);
     let writing = writing.elapsed();
@@ -82,8 +93,8 @@ fn life(part: Part) {
         .succeed(&["-c", part, "-v"], Some(&bench.flashrom.directory.join("written.bin")));
     assert!(bench.read(part) == second, "read back");
 
-    // One byte needs an erase, as all its bits change.
-    second[bytes / 2 + 77] ^= 0xFF;
+    // One byte, which is random in either form, needs an erase, as all its bits change.
+    second[bytes - 77] ^= 0xFF;
     let (fine, said) = bench.flashrom.write(part, &second);
     assert!(fine && said.contains("VERIFIED."), "{said}");
     assert!(bench.read(part) == second, "read back with one byte changed");
@@ -92,48 +103,51 @@ fn life(part: Part) {
     let erased = vec![0xFF; bytes];
     assert!(bench.read(part) == erased, "read back erased");
     let (all, writing) = (start.elapsed().as_secs_f32(), writing.as_secs_f32());
-    tell(&format!("{part}: {all:.1} s, of which the random image took {writing:.1} s"));
+    tell(&format!("{part}: {all:.1} s, of which writing the image took {writing:.1} s"));
     bench.end(&erased);
 }
 
 #[test]
 fn m25p10_a() {
-    life(Part::M25p10a);
+    life("M25P10-A", full);
 }
 
 #[test]
 fn m25p40() {
-    life(Part::M25p40);
+    life("M25P40", full);
 }
 
 #[test]
 fn m25p32() {
-    life(Part::M25p32);
+    life("M25P32", full);
+}
+
+/// flashrom programs this one byte by byte: two full images would take most of a minute.
+#[test]
+fn m25p10() {
+    life("M25P10", sparse);
 }
 
 #[test]
 fn m25p128() {
-    life(Part::M25p128);
+    life("M25P128", full);
 }
-
-const ALL: [(Part, &str); 4] =
-    [(Part::M25p10a, "3"), (Part::M25p40, "7"), (Part::M25p32, "7"), (Part::M25p128, "7")];
 
 /// The whole array is protected, and flashrom unlocks it, writes, and restores BP and SRWD.
 #[test]
 fn unlocks_and_restores() {
-    for (part, bp) in ALL {
-        let (highest_bp, bytes, part) = (part.highest_bp(), part.bytes(), part.name());
+    for (name, part) in PARTS {
+        let (highest_bp, bytes) = (part.highest_bp(), part.bytes());
         for srwd in ["0", "1"] {
-            let options = ["--bp", bp, "--srwd", srwd];
+            let options = ["--bp", &highest_bp.to_string(), "--srwd", srwd];
             let old = sparse(bytes, 3);
-            let Some(bench) = Bench::new("unlocks", part, &old, &options) else { return };
+            let Some(bench) = Bench::new("unlocks", name, &old, &options) else { return };
             let before = bench.status();
             assert_eq!(before, highest_bp << 2 | if srwd == "1" { 0x80 } else { 0 });
             let contents = sparse(bytes, 4);
-            let (fine, said) = bench.flashrom.write(part, &contents);
-            assert!(fine && said.contains("VERIFIED."), "{part}:\n{said}");
-            assert_eq!(bench.status(), before, "{part}: BP and SRWD are restored");
+            let (fine, said) = bench.flashrom.write(name, &contents);
+            assert!(fine && said.contains("VERIFIED."), "{name}:\n{said}");
+            assert_eq!(bench.status(), before, "{name}: BP and SRWD are restored");
             bench.end(&contents);
         }
     }
@@ -143,9 +157,10 @@ fn unlocks_and_restores() {
 /// protects all of it already.
 #[test]
 fn hardware_protection_holds() {
-    for (part, bp) in ALL.into_iter().chain([(Part::M25p40, "4")]) {
-        let (bytes, part) = (part.bytes(), part.name());
-        let options = ["--bp", bp, "--srwd", "1", "--w", "0"];
+    let highest = PARTS.map(|(name, part)| (name, part.highest_bp()));
+    for (part, bp) in highest.into_iter().chain([("M25P40", 4)]) {
+        let bytes = named(part).bytes();
+        let options = ["--bp", &bp.to_string(), "--srwd", "1", "--w", "0"];
         let contents = sparse(bytes, 5);
         let Some(bench) = Bench::new("holds", part, &contents, &options) else { return };
         let before = bench.status() & !0x02;
@@ -180,5 +195,17 @@ fn deep_power_down_hides() {
     assert!(!bench.flashrom.run(&["-c", "M25P40"], None).0, "still hidden");
     bench.server.client().operate(&[0xAB], 0);
     bench.flashrom.succeed(&["-c", "M25P40"], None);
+    bench.end(&contents);
+}
+
+/// One that is found by its signature is not hidden: the probe's RES wakes it.
+#[test]
+fn deep_power_down_does_not_hide_the_older() {
+    let contents = sparse(named("M25P10").bytes(), 10);
+    let Some(bench) = Bench::new("deep", "M25P10", &contents, &[]) else { return };
+    bench.server.client().operate(&[0xB9], 0);
+    assert_eq!(bench.status(), 0xFF, "deep power-down");
+    bench.flashrom.succeed(&["-c", "M25P10"], None);
+    assert!(bench.read("M25P10") == contents);
     bench.end(&contents);
 }

@@ -183,7 +183,7 @@ fn cut_at_any_byte() {
 
 #[test]
 fn settings_at_start() {
-    for (part, bp) in PARTS.into_iter().zip([3, 7, 5, 1]) {
+    for ((_, part), bp) in PARTS.into_iter().zip([3, 7, 5, 1, 2]) {
         for w_high in [false, true] {
             let options = Options { bp, srwd: true, w_high, ..Options::of(part) };
             assert_eq!(status(&mut Board::new(&options)), 0x80 | bp << 2);
@@ -197,8 +197,7 @@ fn parsed(line: &str) -> Result<Options, String> {
 
 #[test]
 fn options() {
-    for part in PARTS {
-        let name = part.name();
+    for (name, part) in PARTS {
         assert_eq!(parsed(&format!("--part {name}")), Ok(Options::of(part)));
         assert_eq!(parsed(&format!("--part {}", name.to_lowercase())), Ok(Options::of(part)));
     }
@@ -217,9 +216,9 @@ fn options() {
 fn refused_options() {
     let part = "--part M25P10-A";
     for (line, sentence) in [
-        ("", "--part is missing: M25P10-A, M25P40, M25P32 or M25P128."),
+        ("", "--part is missing: M25P10-A, M25P40, M25P32, M25P128 or M25P10."),
         ("--part", "--part has no value."),
-        ("--part M25P05", "--part is M25P10-A, M25P40, M25P32 or M25P128, not M25P05."),
+        ("--part M25P05", "--part is M25P10-A, M25P40, M25P32, M25P128 or M25P10, not M25P05."),
         (&format!("{part} {part}"), "--part is given twice."),
         (&format!("{part} --size 3"), "--size is not an option."),
         (&format!("{part} chip.bin"), "chip.bin is not an option."),
@@ -231,6 +230,7 @@ fn refused_options() {
         (&format!("{part} --bulk-erase 1000001"), "--bulk-erase is 1 to 1000000, not 1000001."),
         (&format!("{part} --srwd yes"), "--srwd is 0 to 1, not yes."),
         (&format!("{part} --bp 4"), "--bp is 0 to 3 on the M25P10-A, not 4."),
+        ("--part M25P10 --bp 4", "--bp is 0 to 3 on the M25P10, not 4."),
         ("--bp 8 --part M25P40", "--bp is 0 to 7, not 8."),
         (&format!("{part} --trace --trace"), "--trace is given twice."),
         (&format!("{part} --image"), "--image has no value."),

@@ -1,10 +1,12 @@
-//! The five parts and their protected areas, as the paper's two tables print them.
+//! The six parts and their protected areas: the five as the paper's two tables print them, and the older
+//! M25P10-A of Wish 4.
 
 pub struct Part {
     pub bytes: usize,
     pub sectors: usize,
     pub sector_bytes: usize,
-    pub identification: [u8; 3],
+    /// None where the part has no Read Identification.
+    pub identification: Option<[u8; 3]>,
     pub signature: Option<u8>,
     pub highest_bp: u8,
     /// How many of the highest sectors are protected, by BP.
@@ -15,12 +17,15 @@ const FOUR_SECTORS: &[usize] = &[0, 1, 2, 4];
 const EIGHT_SECTORS: &[usize] = &[0, 1, 2, 4, 8, 8, 8, 8];
 const SIXTY_FOUR_SECTORS: &[usize] = &[0, 1, 2, 4, 8, 16, 32, 64];
 
-pub const PARTS: [Part; 5] = [
+/// The parts whose arrays are filled and compared quickly.
+pub const SMALL: [usize; 4] = [0, 1, 2, 5];
+
+pub const PARTS: [Part; 6] = [
     Part {
         bytes: 4_096,
         sectors: 4,
         sector_bytes: 1_024,
-        identification: [0x00, 0x00, 0x0C],
+        identification: Some([0x00, 0x00, 0x0C]),
         signature: Some(0x0B),
         highest_bp: 3,
         protected: FOUR_SECTORS,
@@ -29,7 +34,7 @@ pub const PARTS: [Part; 5] = [
         bytes: 131_072,
         sectors: 4,
         sector_bytes: 32_768,
-        identification: [0x20, 0x20, 0x11],
+        identification: Some([0x20, 0x20, 0x11]),
         signature: Some(0x10),
         highest_bp: 3,
         protected: FOUR_SECTORS,
@@ -38,7 +43,7 @@ pub const PARTS: [Part; 5] = [
         bytes: 524_288,
         sectors: 8,
         sector_bytes: 65_536,
-        identification: [0x20, 0x20, 0x13],
+        identification: Some([0x20, 0x20, 0x13]),
         signature: Some(0x12),
         highest_bp: 7,
         protected: EIGHT_SECTORS,
@@ -47,7 +52,7 @@ pub const PARTS: [Part; 5] = [
         bytes: 4_194_304,
         sectors: 64,
         sector_bytes: 65_536,
-        identification: [0x20, 0x20, 0x16],
+        identification: Some([0x20, 0x20, 0x16]),
         signature: Some(0x15),
         highest_bp: 7,
         protected: SIXTY_FOUR_SECTORS,
@@ -56,9 +61,18 @@ pub const PARTS: [Part; 5] = [
         bytes: 16_777_216,
         sectors: 64,
         sector_bytes: 262_144,
-        identification: [0x20, 0x20, 0x18],
+        identification: Some([0x20, 0x20, 0x18]),
         signature: None,
         highest_bp: 7,
         protected: SIXTY_FOUR_SECTORS,
+    },
+    Part {
+        bytes: 131_072,
+        sectors: 4,
+        sector_bytes: 32_768,
+        identification: None,
+        signature: Some(0x10),
+        highest_bp: 3,
+        protected: FOUR_SECTORS,
     },
 ];

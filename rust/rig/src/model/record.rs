@@ -69,7 +69,7 @@ impl Record {
 
     pub fn sound(&self) -> bool {
         let durations = [self.program, self.sector_erase, self.bulk_erase, self.write_status];
-        self.part <= 4
+        self.part <= 5
             && self.bp <= self.figures().highest_bp
             && durations.into_iter().all(is_duration)
             && match self.mode {

@@ -48,7 +48,7 @@ impl Chip<'_> {
             RDSR => Some(self.record.status()),
             READ if n >= 4 => Some(self.read()),
             FAST_READ if n >= 5 => Some(self.read()),
-            RDID => Some(part.identification.get(n - 1).copied().unwrap_or(0)),
+            RDID => part.identification.map(|three| three.get(n - 1).copied().unwrap_or(0)),
             RES if n >= 4 => part.signature,
             _ => None,
         }

@@ -8,7 +8,8 @@ use m25p::{Durations, Part, UnknownPart};
 pub const USAGE: &str = "\
 Usage: pins PART FILE [--output OUT] [--vcd OUT.vcd [--pulled-up]] [--durations P,S,B,W]
 
-PART         a number or a name, in any case: 0 bench, 1 M25P10-A, 2 M25P40, 3 M25P32, 4 M25P128
+PART         a number or a name, in any case: 0 bench, 1 M25P10-A, 2 M25P40, 3 M25P32, 4 M25P128,
+             5 M25P10-A-older (without Read Identification)
 FILE         one byte for each sample: bit 0 Chip Select, 1 clock, 2 data in, 3 W, 4 Hold
 --output     writes one byte for each sample: the output after it, 0 or 1, or 2 for not driven
 --vcd        writes the five pins and the output for GTKWave or PulseView

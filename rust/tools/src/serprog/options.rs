@@ -5,13 +5,21 @@ use std::path::{Display, Path, PathBuf};
 
 use m25p::{Durations, Part};
 
-/// The parts that flashrom knows, by the same names.
-pub const PARTS: [Part; 4] = [Part::M25p10a, Part::M25p40, Part::M25p32, Part::M25p128];
+/// The parts that flashrom knows, by its names. Its M25P10 is found by the signature alone, as the older
+/// M25P10-A is.
+pub const PARTS: [(&str, Part); 5] = [
+    ("M25P10-A", Part::M25p10a),
+    ("M25P40", Part::M25p40),
+    ("M25P32", Part::M25p32),
+    ("M25P128", Part::M25p128),
+    ("M25P10", Part::M25p10aOlder),
+];
 
 pub const USAGE: &str = "\
 serprog --part NAME [option]...   an M25P chip for flashrom, on a loopback port
 
-  --part NAME        M25P10-A, M25P40, M25P32 or M25P128, in capitals or small letters
+  --part NAME        M25P10-A, M25P40, M25P32, M25P128 or M25P10, in capitals or small letters;
+                     M25P10 is the older M25P10-A, without Read Identification
   --image FILE       the contents: a raw file of the part's size, read at start and written back
                      when a client lets the pins go, when it has hung up, and at the end (SIGINT
                      or SIGTERM); one server has it at a time
@@ -80,7 +88,7 @@ impl Options {
             }
             seen.push(word);
         }
-        options.part = part.ok_or("--part is missing: M25P10-A, M25P40, M25P32 or M25P128.")?;
+        options.part = part.ok_or(format!("--part is missing: {}.", names()))?;
         options.check()
     }
 
@@ -105,7 +113,9 @@ impl Options {
     fn check(self) -> Result<Options, String> {
         let highest = self.part.highest_bp();
         if self.bp > highest {
-            return Err(format!("--bp is 0 to {highest} on the {}, not {}.", self.part, self.bp));
+            let name = PARTS.into_iter().find(|(_, part)| *part == self.part).map(|(name, _)| name);
+            let name = name.unwrap_or(self.part.name());
+            return Err(format!("--bp is 0 to {highest} on the {name}, not {}.", self.bp));
         }
         Ok(self)
     }
@@ -126,11 +136,16 @@ const KNOWN: [&str; 12] = [
     "--trace",
 ];
 
-/// A part by its name, in any case.
+/// A part by flashrom's name, in any case.
 fn named(value: &OsStr) -> Result<Part, String> {
-    let found = PARTS.into_iter().find(|part| value.eq_ignore_ascii_case(part.name()));
-    let refusal = format!("--part is M25P10-A, M25P40, M25P32 or M25P128, not {}.", shown(value));
-    found.ok_or(refusal)
+    let found = PARTS.into_iter().find(|(name, _)| value.eq_ignore_ascii_case(name));
+    found.map(|(_, part)| part).ok_or(format!("--part is {}, not {}.", names(), shown(value)))
+}
+
+/// flashrom's names, parted by commas and an 'or'.
+fn names() -> String {
+    let [first @ .., last] = PARTS.map(|(name, _)| name);
+    format!("{} or {last}", first.join(", "))
 }
 
 /// A word of the command line as text.

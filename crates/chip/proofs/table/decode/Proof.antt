@@ -16,7 +16,7 @@ returns-2 c = c .order2 .ensures ∙ rw (c .before .match .keys2)
 
 returns-3 : tie.Need-returns-3
 unfolding rowOf
-returns-3 c = c .reading .ensures ∙ rw (c .before .match .keys3)
+returns-3 c = c .only-if .ensures ∙ rw (c .before .reading .ensures, c .before .before .match .keys3)
 
 returns-4 : tie.Need-returns-4
 unfolding rowOf
@@ -48,11 +48,11 @@ returns-10 c = c .write4 .ensures ∙ rw (c .before .match .keys10)
 
 returns-11 : tie.Need-returns-11
 unfolding rowOf
-returns-11 c = c .only-if .ensures ∙ rw (c .before .order3 .ensures, c .before .before .match .keys11)
+returns-11 c = c .only-if2 .ensures ∙ rw (c .before .order3 .ensures, c .before .before .match .keys11)
 
 returns-12 : tie.Need-returns-12
 unfolding rowOf
-returns-12 c = c .only-if2 .ensures ∙ rw (c .before .also-deep .ensures, c .before .before .reading5 .ensures, c .before .before .before .match .keys12)
+returns-12 c = c .only-if3 .ensures ∙ rw (c .before .also-deep .ensures, c .before .before .reading5 .ensures, c .before .before .before .match .keys12)
 
 returns-13 : tie.Need-returns-13
 unfolding rowOf
@@ -64,6 +64,7 @@ pub decode-spec : {M : Type 1} → statement M
 decode-spec =
     tie.close
     (tie.spec
+    (λ c κs. search needs)
     (λ c κs. search needs)
     (λ c κs. search needs)
     (λ c κs. search needs)

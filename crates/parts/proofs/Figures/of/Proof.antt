@@ -24,9 +24,13 @@ returns-4 c = c .figures4 .ensures ∙ rw (c .before .match .keys4)
 
 returns-5 : tie.Need-returns-5
 unfolding figuresOf
-returns-5 c = let r = c .before .match .rest in
-    c .figures5 .ensures
-    ∙ rw (ne-eqb _ _ (r .0 .0 .0 .1), ne-eqb _ _ (r .0 .0 .1), ne-eqb _ _ (r .0 .1), ne-eqb _ _ (r .1))
+returns-5 c = c .figures5 .ensures ∙ rw (c .before .match .keys5)
+
+returns-6 : tie.Need-returns-6
+unfolding figuresOf
+returns-6 c = let r = c .before .match .rest in
+    c .figures6 .ensures
+    ∙ rw (ne-eqb _ _ (r .0 .0 .0 .0 .1), ne-eqb _ _ (r .0 .0 .0 .1), ne-eqb _ _ (r .0 .0 .1), ne-eqb _ _ (r .0 .1), ne-eqb _ _ (r .1))
 
 pub of-spec : {M : Type 1} → statement M
 of-spec =
@@ -37,8 +41,10 @@ of-spec =
     (λ c κs. search needs)
     (λ c κs. search needs)
     (λ c κs. search needs)
+    (λ c κs. search needs)
     returns
     returns-2
     returns-3
     returns-4
-    returns-5)
+    returns-5
+    returns-6)
