@@ -34,7 +34,8 @@
  *   bytes 24-27  duration of a status write, likewise
  *
  *   Numbers of four bytes are little-endian. A record is sound if every field is as above, a busy record
- *   has its latch set, and part 4 is not in deep power-down. Any other 28 bytes are answered with 6.
+ *   has its latch set exactly if more than one tick is left, and part 4 is not in deep power-down. Any
+ *   other 28 bytes are answered with 6.
  *
  * The answer, 64 bits
  *
@@ -165,7 +166,9 @@ uint64_t m25p_deliver(uint8_t *record, size_t record_len, uint32_t part,
  * on: data byte k goes to slot (address + k) modulo 256, a later byte replaces an earlier one in its
  * slot, and then each byte of the addressed page becomes itself AND its slot; where no data went, the
  * byte stays. An executed WRSR, PP, SE or BE takes effect at once and makes the chip busy for its
- * duration. Status byte: bit 7 SRWD, bits 4 to 2 BP, bit 1 the latch, bit 0 set while busy.
+ * duration. Status byte: bit 7 SRWD, bits 4 to 2 BP, bit 1 the latch, bit 0 set while busy. The latch
+ * falls one tick before the cycle ends: with SRWD 0 and BP 0 the status is 03, in the last tick 01, and
+ * 00 afterwards.
  *
  * BP protects this many of the highest sectors: 0 for BP 0, otherwise 2 to the power BP - 1, or all of
  * them where the part has fewer. */
@@ -175,8 +178,9 @@ uint64_t m25p_transact(uint8_t *record, size_t record_len,
                        uint32_t pulses, uint32_t w,
                        uint8_t *response, size_t response_len);
 
-/* Lets ticks pass. While busy: fewer ticks than are left are taken off; otherwise the cycle ends, with
- * standby and the latch reset. In standby and deep power-down nothing changes. */
+/* Lets ticks pass. While busy: fewer ticks than are left are taken off, and with one tick left the latch
+ * is reset; otherwise the cycle ends, with standby and the latch reset. In standby and deep power-down
+ * nothing changes. */
 uint64_t m25p_wait(uint8_t *record, size_t record_len, uint32_t ticks);
 
 /* Power off and on: standby, latch reset; BP, SRWD, durations and array are kept, and a running cycle

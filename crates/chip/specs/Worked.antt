@@ -138,7 +138,7 @@ k8 = record { device = bench 1 false true; steps = answers (0xC7 ∷ []) 17 ∷ 
 abbrev pub k9 : Case
 k9 = record { device = bench 0 true true; steps = told false 0 (0x01 ∷ 0 ∷ []) 18 ∷ told true 0 (0x01 ∷ 0 ∷ []) 0 ∷ [] }
 
--- `01FF`: status 8F while busy, 8C afterwards
+-- `01FF`: status 8F right after the write, 8C afterwards
 abbrev pub k10 : Case
 k10 = record { device = usual; steps = answers (0x01 ∷ 0xFF ∷ []) 0 ∷ status 0x8F ∷ waits 2 ∷ status 0x8C ∷ [] }
 
@@ -146,9 +146,9 @@ k10 = record { device = usual; steps = answers (0x01 ∷ 0xFF ∷ []) 0 ∷ stat
 abbrev pub k11 : Case
 k11 = record { device = usual; steps = answers (0x02 ∷ 0 ∷ 0 ∷ 0 ∷ []) 15 ∷ answers (0xD8 ∷ 0 ∷ 0 ∷ 0 ∷ 0 ∷ []) 15 ∷ [] }
 
--- a program started: status 03 after waiting 2, 00 after 1 more
+-- a program started: status 03 after waiting 1, 01 after waiting 2, 00 after 1 more
 abbrev pub k12 : Case
-k12 = record { device = usual; steps = answers (0x02 ∷ 0 ∷ 0 ∷ 0 ∷ 0 ∷ []) 0 ∷ waits 2 ∷ status 0x03 ∷ waits 1 ∷ status 0x00 ∷ [] }
+k12 = record { device = usual; steps = answers (0x02 ∷ 0 ∷ 0 ∷ 0 ∷ 0 ∷ []) 0 ∷ waits 1 ∷ status 0x03 ∷ waits 1 ∷ status 0x01 ∷ waits 1 ∷ status 0x00 ∷ [] }
 
 -- deep: `0500` gives 13, `AB` gives 0 and standby
 abbrev pub k13 : Case
@@ -229,5 +229,20 @@ older-busy = record { device = record-of 5 0 false true (Busy 3); steps = answer
 abbrev pub older-deep : Case
 older-deep = record { device = record-of 5 0 false true Deep; steps = answers (0x9F ∷ 0 ∷ []) 14 ∷ answers (0x05 ∷ 0 ∷ []) 13 ∷ answers (0xAB ∷ []) 0 ∷ status 0x02 ∷ [] }
 
+-- durations of 1: status 01 at once, and 00 after waiting 1; what may be done in the cycle stays the same
+abbrev pub one-tick : Case
+one-tick = record {
+  device = record { part = 0; bp = 0; srwd = false; latch = true; mode = Standby; program = 1; «sector_erase» = 1; «bulk_erase» = 1; «write_status» = 1 };
+  steps =
+      answers (0x02 ∷ 0 ∷ 0 ∷ 0 ∷ 0x5A ∷ []) 0 ∷ status 0x01 ∷ answers (0x06 ∷ []) 12 ∷ waits 0 ∷ status 0x01 ∷ waits 1 ∷ status 0x00 ∷ holds 0 0x5A
+      ∷ answers (0x06 ∷ []) 0 ∷ answers (0xD8 ∷ 0 ∷ 0 ∷ 0 ∷ []) 0 ∷ status 0x01 ∷ waits 1 ∷ status 0x00 ∷ holds 0 0xFF
+      ∷ answers (0x06 ∷ []) 0 ∷ answers (0xC7 ∷ []) 0 ∷ status 0x01 ∷ starts ∷ status 0x00
+      ∷ answers (0x06 ∷ []) 0 ∷ answers (0x01 ∷ 0xFF ∷ []) 0 ∷ status 0x8D ∷ waits 1 ∷ status 0x8C ∷ [];
+}
+
+-- `01FF`: status 8F right after it, 8D after waiting 1, 8C after 1 more
+abbrev pub last-tick : Case
+last-tick = record { device = usual; steps = answers (0x01 ∷ 0xFF ∷ []) 0 ∷ status 0x8F ∷ waits 1 ∷ status 0x8D ∷ waits 1 ∷ status 0x8C ∷ [] }
+
 unfoldable pub further : List Case
-further = low-alone ∷ low-program ∷ busy-unknown ∷ roll-over ∷ two-bits ∷ three-bits ∷ wraps ∷ erases ∷ names ∷ older ∷ older-busy ∷ older-deep ∷ []
+further = low-alone ∷ low-program ∷ busy-unknown ∷ roll-over ∷ two-bits ∷ three-bits ∷ wraps ∷ erases ∷ names ∷ older ∷ older-busy ∷ older-deep ∷ one-tick ∷ last-tick ∷ []

@@ -60,12 +60,15 @@ fn worked_last() {
     bench(b"K8", b"= 0 1 1;x 1 0 C7");
     // SRWD 1: 0100 gives 18 with W low, 0 with W high
     bench(b"K9", b"= 1 0 1;x 0 0 0100;s;x 1 0 0100;s");
-    // 01FF: status 8F while busy, 8C afterwards
+    // 01FF: status 8F right after the write, 8C afterwards
     bench(b"K10", b"x 1 0 01FF;x 1 0 0500;w 2;x 1 0 0500");
     // 02000000 gives 15, so does D800000000
     bench(b"K11", b"x 1 0 02000000;x 1 0 D800000000");
-    // a program started: status 03 after waiting 2, 00 after 1 more
-    bench(b"K12", b"x 1 0 0200001000;w 2;x 1 0 0500;w 1;x 1 0 0500");
+    // a program started: status 03 after waiting 1, 01 after waiting 2, 00 after 1 more
+    bench(
+        b"K12",
+        b"x 1 0 0200001000;w 1;x 1 0 0500;w 1;x 1 0 0500;w 1;x 1 0 0500",
+    );
     // deep: 0500 gives 13, AB gives 0 and standby
     bench(b"K13", b"x 1 0 B9;x 1 0 0500;x 1 0 AB;s");
     // latch reset, BP 3: D8000000 gives 16, not 17
@@ -134,8 +137,10 @@ fn modes() {
         b"busy",
         b"x 1 0 D8000000;x 1 0 050000;x 1 0 03000000FF;x 1 0 06;x 1 0 AB;x 1 0 FE;x 1 0;x 1 4 0500;w 4;x 1 0 0500;w 1;x 1 0 0500",
     );
-    // less than the ticks left: they fall by t; otherwise standby with the latch reset
+    // less than the ticks left: they fall by t, and the latch is reset on the last one; otherwise standby with the latch reset
     bench(b"wait", b"x 1 0 C7;s;w 0;s;w 4;s;w 4;s;w 1;s;w 9;s");
+    // settings written: 8F right after it, 8D on the last tick, 8C afterwards
+    bench(b"last-tick", b"x 1 0 01FF;s;w 1;s;w 1;s");
     // in standby waiting changes nothing
     bench(b"wait-standby", b"w 9;s");
     // in mid-cycle: standby, latch reset, BP, SRWD and the array kept; then out of deep power-down

@@ -22,6 +22,8 @@ pub record Refusals : Type 0 where
   pub busy-without-ticks : unpackAnswer (set (set accepted 3 1) 4 1) ≡ 6
   pub busy-without-latch : unpackAnswer (set (set accepted 4 1) 8 7) ≡ 6
   pub busy : unpackAnswer (set (set (set accepted 3 1) 4 1) 8 7) ≡ 0
+  pub last-tick-with-latch : unpackAnswer (set (set (set accepted 3 1) 4 1) 8 1) ≡ 6
+  pub last-tick : unpackAnswer (set (set accepted 4 1) 8 1) ≡ 0
   pub deep : unpackAnswer (set accepted 4 2) ≡ 0
   pub deep-m25p128 : unpackAnswer (set (set accepted 0 4) 4 2) ≡ 6
   pub padding : unpackAnswer (set accepted 5 1) ≡ 6
@@ -35,4 +37,4 @@ pub record Refusals : Type 0 where
 
 pub refusals : Refusals
 unfolding accepted unpackAnswer formed packOf sound fieldsOf figuresOf latchAt
-refusals = record { as-is = refl; part = refl; bp = refl; srwd = refl; latch = refl; mode = refl; busy-without-ticks = refl; busy-without-latch = refl; busy = refl; deep = refl; deep-m25p128 = refl; padding = refl; padding-2 = refl; padding-3 = refl; idle-ticks = refl; deep-ticks = refl; no-duration = refl; long-duration = refl; short = refl }
+refusals = record { as-is = refl; part = refl; bp = refl; srwd = refl; latch = refl; mode = refl; busy-without-ticks = refl; busy-without-latch = refl; busy = refl; last-tick-with-latch = refl; last-tick = refl; deep = refl; deep-m25p128 = refl; padding = refl; padding-2 = refl; padding-3 = refl; idle-ticks = refl; deep-ticks = refl; no-duration = refl; long-duration = refl; short = refl }

@@ -15,12 +15,13 @@ record Worked : Type 0 where
   -- settings SRWD 1 and BP 3 being written, and afterwards
   writing : statusByte (running (settled bench-chip true 3) 2) ≡ 0x8F
   written : statusByte (waited (running (settled bench-chip true 3) 2) 2) ≡ 0x8C
-  -- a program started, after 2 ticks, after 1 more
-  programming : statusByte (waited (running bench-chip 3) 2) ≡ 0x03
+  -- a program started, after 1 tick, after 2, after 1 more
+  programming : statusByte (waited (running bench-chip 3) 1) ≡ 0x03
+  last-tick : statusByte (waited (running bench-chip 3) 2) ≡ 0x01
   programmed : statusByte (waited (waited (running bench-chip 3) 2) 1) ≡ 0x00
   -- power-up keeps the settings
   powered : statusByte (poweredUp (latched (settled bench-chip true 3) true)) ≡ 0x8C
 
 worked : Worked
 unfolding bench-chip delivered latchAt moded latched settled running waited poweredUp statusByte
-worked = record { fresh = refl; enabled = refl; writing = refl; written = refl; programming = refl; programmed = refl; powered = refl }
+worked = record { fresh = refl; enabled = refl; writing = refl; written = refl; programming = refl; last-tick = refl; programmed = refl; powered = refl }

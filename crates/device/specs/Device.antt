@@ -9,9 +9,9 @@ use Rattle.device.specs.declared.Mode.the-variants.{Standby, Busy, Deep}
 use Rattle.device.specs.declared.Device.{Device}
 use Rattle.device.specs.declared.Checked.{Checked}
 
--- the latch while t ticks are left
+-- the latch while t ticks of a cycle are left: it falls one tick before the cycle ends
 unfoldable pub latchAt : ℕ → Bool
-latchAt t = true
+latchAt t = ltb 1 t
 
 -- another latch and mode
 unfoldable pub moded : Device → Bool → Mode → Device

@@ -38,7 +38,7 @@ pub struct Checked {
 fn latch_at(t: u32) -> bool
     ensures { λ r. ⌜ r ≡ latchAt t ⌝ }
 {
-    true
+    1 < t
 }
 
 // Whether two bools are equal.

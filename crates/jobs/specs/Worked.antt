@@ -117,7 +117,7 @@ shown =
 abbrev pub lasting : ℕ → ℕ → ℕ → ℕ → Device
 lasting p s b w = record { part = 0; bp = 0; srwd = false; latch = false; mode = Standby; program = p; «sector_erase» = s; «bulk_erase» = b; «write_status» = w }
 
--- the same in a cycle, latch set
+-- the same in a cycle of two ticks or more, latch set
 abbrev pub going : ℕ → Device → Device
 going t d = record { part = 0; bp = 0; srwd = false; latch = true; mode = Busy t; program = d .program; «sector_erase» = d .«sector_erase»; «bulk_erase» = d .«bulk_erase»; «write_status» = d .«write_status» }
 
@@ -136,7 +136,7 @@ rested j c = waitCall (carried j c) (longestCycle (c .device))
 abbrev pub done : Device → Checked
 done d = record { answer = 0; device = d }
 
--- the longest duration, a million ticks, in each of the four places
+-- the longest duration, a million ticks, in each of the four places, and the shortest
 pub record Waits : Type 0 where
   -- the wait is that number
   pub program : longestCycle (lasting 1000000 5 9 2) ≡ 1000000
@@ -153,6 +153,9 @@ pub record Waits : Type 0 where
   -- settings, which are no job but wait like one
   pub status-going : carried (job (0x01 ∷ 0x00 ∷ [])) (chip (lasting 3 5 9 1000000)) ≡ going 1000000 (lasting 3 5 9 1000000)
   pub status-over : rested (job (0x01 ∷ 0x00 ∷ [])) (chip (lasting 3 5 9 1000000)) ≡ done (lasting 3 5 9 1000000)
+  -- a cycle of one tick: the latch is reset before the wait, which ends the cycle as any other
+  pub one-going : carried (programs 0x00 0x10 0xF0) (chip (lasting 1 1 1 1)) ≡ record { part = 0; bp = 0; srwd = false; latch = false; mode = Busy 1; program = 1; «sector_erase» = 1; «bulk_erase» = 1; «write_status» = 1 }
+  pub one-over : rested (programs 0x00 0x10 0xF0) (chip (lasting 1 1 1 1)) ≡ done (lasting 1 1 1 1)
   -- after a job that was ignored, 06 is undone by 04
   pub ignored : afterJob (job (0xC7 ∷ 0x00 ∷ [])) (chip (lasting 3 5 9 2)) .device ≡ lasting 3 5 9 2
 
@@ -172,5 +175,7 @@ waits = record {
   bulk-over = refl;
   status-going = refl;
   status-over = refl;
+  one-going = refl;
+  one-over = refl;
   ignored = refl;
 }

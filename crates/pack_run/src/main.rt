@@ -26,6 +26,11 @@ fn busy() -> Device {
     record(2, 7, false, true, Mode::Busy(1_000_000))
 }
 
+// The bench part in the last tick of a cycle, its latch reset.
+fn last_tick() -> Device {
+    record(0, 2, true, false, Mode::Busy(1))
+}
+
 // The M25P32 in deep power-down.
 fn deep() -> Device {
     record(3, 5, true, true, Mode::Deep)
@@ -126,6 +131,7 @@ fn sound_ones() {
         b"M25P128-busy",
         record(4, 0, false, true, Mode::Busy(66_051)),
     );
+    round(b"bench-last-tick", last_tick());
     round(b"bench-deep", record(0, 1, false, false, Mode::Deep));
     round(
         b"M25P10-A-older-deep",
@@ -140,7 +146,11 @@ fn refused_packs() {
     pack_whole(b"pack-bp-4", record(0, 4, false, false, Mode::Standby));
     pack_whole(
         b"pack-busy-latch-reset",
-        record(0, 0, false, false, Mode::Busy(1)),
+        record(0, 0, false, false, Mode::Busy(2)),
+    );
+    pack_whole(
+        b"pack-last-tick-latch-set",
+        record(0, 0, false, true, Mode::Busy(1)),
     );
     pack_whole(b"pack-ticks-0", record(0, 0, false, true, Mode::Busy(0)));
     pack_whole(
@@ -185,6 +195,8 @@ fn damaged_numbers() {
     damaged(b"ticks-1000001", busy(), 8, 0x41);
     damaged(b"ticks-999999", busy(), 8, 0x3F);
     damaged(b"busy-latch-reset", busy(), 3, 0);
+    damaged(b"last-tick-latch-set", last_tick(), 3, 1);
+    damaged(b"last-tick-and-one-more", last_tick(), 8, 2);
     damaged(b"ticks-and-mode-0", busy(), 4, 0);
     damaged(b"ticks-and-mode-2", busy(), 4, 2);
     damaged(b"ticks-in-deep", deep(), 9, 1);

@@ -205,9 +205,10 @@ pub record Chip : Type 0 where
   -- 14: the older M25P10-A has no RDID
   pub ready-older : asked (record-of 5 0 false true Standby) 0 true ≡ 0 ∷ 0 ∷ 14 ∷ 0 ∷ 0 ∷ 0 ∷ 0 ∷ 0 ∷ 0 ∷ 0 ∷ 0 ∷ 0 ∷ []
   -- 12: busy, and not RDSR
-  pub busy : asked (record-of 0 0 false true (Busy 1)) 0 true ≡ 12 ∷ 12 ∷ 12 ∷ 0 ∷ 12 ∷ 12 ∷ 12 ∷ 12 ∷ 12 ∷ 12 ∷ 12 ∷ 12 ∷ []
-  pub busy-m25p128 : asked (record-of 4 0 false true (Busy 1)) 0 true ≡ 12 ∷ 12 ∷ 12 ∷ 0 ∷ 12 ∷ 12 ∷ 12 ∷ 12 ∷ 12 ∷ 12 ∷ 14 ∷ 14 ∷ []
-  pub busy-older : asked (record-of 5 0 false true (Busy 1)) 0 true ≡ 12 ∷ 12 ∷ 14 ∷ 0 ∷ 12 ∷ 12 ∷ 12 ∷ 12 ∷ 12 ∷ 12 ∷ 12 ∷ 12 ∷ []
+  pub busy : asked (record-of 0 0 false true (Busy 2)) 0 true ≡ 12 ∷ 12 ∷ 12 ∷ 0 ∷ 12 ∷ 12 ∷ 12 ∷ 12 ∷ 12 ∷ 12 ∷ 12 ∷ 12 ∷ []
+  pub busy-last : asked (record-of 0 0 false false (Busy 1)) 0 true ≡ 12 ∷ 12 ∷ 12 ∷ 0 ∷ 12 ∷ 12 ∷ 12 ∷ 12 ∷ 12 ∷ 12 ∷ 12 ∷ 12 ∷ []
+  pub busy-m25p128 : asked (record-of 4 0 false true (Busy 2)) 0 true ≡ 12 ∷ 12 ∷ 12 ∷ 0 ∷ 12 ∷ 12 ∷ 12 ∷ 12 ∷ 12 ∷ 12 ∷ 14 ∷ 14 ∷ []
+  pub busy-older : asked (record-of 5 0 false true (Busy 2)) 0 true ≡ 12 ∷ 12 ∷ 14 ∷ 0 ∷ 12 ∷ 12 ∷ 12 ∷ 12 ∷ 12 ∷ 12 ∷ 12 ∷ 12 ∷ []
   -- 13: deep power-down, and not RES
   pub deep : asked (record-of 0 0 false true Deep) 0 true ≡ 13 ∷ 13 ∷ 13 ∷ 13 ∷ 13 ∷ 13 ∷ 13 ∷ 13 ∷ 13 ∷ 13 ∷ 13 ∷ 0 ∷ []
   pub deep-older : asked (record-of 5 0 false true Deep) 0 true ≡ 13 ∷ 13 ∷ 14 ∷ 13 ∷ 13 ∷ 13 ∷ 13 ∷ 13 ∷ 13 ∷ 13 ∷ 13 ∷ 0 ∷ []
@@ -242,18 +243,18 @@ pub record Chip : Type 0 where
   pub codes-m25p32 : known (record-of 3 0 false true Standby) ≡ codes
   pub codes-m25p128 : known (record-of 4 0 false true Standby) ≡ sleepless
   pub codes-older : known (record-of 5 0 false true Standby) ≡ nameless
-  pub codes-busy : known (record-of 0 0 false true (Busy 1)) ≡ codes
+  pub codes-busy : known (record-of 0 0 false false (Busy 1)) ≡ codes
   pub codes-deep : known (record-of 0 0 false true Deep) ≡ codes
   -- the chip's numbers in order, each with all that can come after it
-  pub eleven-first : number usual 0 true [] ∷ number (record-of 0 0 false true (Busy 1)) 7 false [] ∷ number (record-of 0 0 false false Deep) 7 false [] ∷ [] ≡ 11 ∷ 11 ∷ 11 ∷ []
-  pub fourteen-next : number (record-of 4 7 true true (Busy 1)) 7 false (0xAB ∷ []) ∷ number (record-of 3 7 true false Deep) 7 false (0x9E ∷ []) ∷ [] ≡ 14 ∷ 14 ∷ []
-  pub twelve-next : number (record-of 0 3 true true (Busy 1)) 7 false dataless ∷ number (record-of 0 3 true true (Busy 1)) 7 false threeBytes ∷ [] ≡ 12 ∷ 12 ∷ []
+  pub eleven-first : number usual 0 true [] ∷ number (record-of 0 0 false false (Busy 1)) 7 false [] ∷ number (record-of 0 0 false false Deep) 7 false [] ∷ [] ≡ 11 ∷ 11 ∷ 11 ∷ []
+  pub fourteen-next : number (record-of 4 7 true false (Busy 1)) 7 false (0xAB ∷ []) ∷ number (record-of 3 7 true false Deep) 7 false (0x9E ∷ []) ∷ [] ≡ 14 ∷ 14 ∷ []
+  pub twelve-next : number (record-of 0 3 true false (Busy 1)) 7 false dataless ∷ number (record-of 0 3 true false (Busy 1)) 7 false threeBytes ∷ [] ≡ 12 ∷ 12 ∷ []
   pub thirteen-next : number (record-of 0 3 true false Deep) 7 false dataless ∷ number (record-of 0 3 true false Deep) 7 false threeBytes ∷ [] ≡ 13 ∷ 13 ∷ []
   pub fifteen-next : number (bench 3 true false) 0 false dataless ∷ number (bench 3 true false) 0 false threeBytes ∷ number (bench 3 true false) 1 false program ∷ number (bench 3 true false) 1 false settings ∷ [] ≡ 15 ∷ 15 ∷ 15 ∷ 15 ∷ []
   pub sixteen-next : asked (bench 3 true false) 0 false ≡ 0 ∷ 0 ∷ 0 ∷ 0 ∷ 16 ∷ 0 ∷ 0 ∷ 16 ∷ 16 ∷ 16 ∷ 0 ∷ 0 ∷ []
   pub last-two : asked (bench 3 true true) 0 false ≡ 0 ∷ 0 ∷ 0 ∷ 0 ∷ 18 ∷ 0 ∷ 0 ∷ 17 ∷ 17 ∷ 17 ∷ 0 ∷ 0 ∷ []
   -- a refusal before each of them
-  pub host-first : number usual 8 true [] ∷ number usual 8 true (0xFE ∷ []) ∷ number (record-of 0 0 false true (Busy 1)) 8 true program ∷ number (record-of 0 0 false true Deep) 8 true program ∷ number usual 8 true dataless ∷ number (bench 0 false false) 8 true program ∷ number (bench 3 false true) 8 true program ∷ number (bench 0 true true) 8 false settings ∷ [] ≡ 4 ∷ 4 ∷ 4 ∷ 4 ∷ 4 ∷ 4 ∷ 4 ∷ 4 ∷ []
+  pub host-first : number usual 8 true [] ∷ number usual 8 true (0xFE ∷ []) ∷ number (record-of 0 0 false false (Busy 1)) 8 true program ∷ number (record-of 0 0 false true Deep) 8 true program ∷ number usual 8 true dataless ∷ number (bench 0 false false) 8 true program ∷ number (bench 3 false true) 8 true program ∷ number (bench 0 true true) 8 false settings ∷ [] ≡ 4 ∷ 4 ∷ 4 ∷ 4 ∷ 4 ∷ 4 ∷ 4 ∷ 4 ∷ []
 
 -- computed by the checker
 pub chip : Chip
@@ -266,6 +267,7 @@ chip = record {
   ready-m25p128 = refl;
   ready-older = refl;
   busy = refl;
+  busy-last = refl;
   busy-m25p128 = refl;
   busy-older = refl;
   deep = refl;

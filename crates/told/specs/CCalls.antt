@@ -65,12 +65,16 @@ pub record Told : Type 0 where
   pub erases : after set-up (0xD8 ∷ 0 ∷ 0 ∷ 0 ∷ []) ≡ packed 1 1 1 5
   pub disables : after set-up (0x04 ∷ []) ≡ packed 1 0 0 0
   pub sleeps : after set-up (0xB9 ∷ []) ≡ packed 1 1 2 0
-  pub falls : waited-on (packed 1 1 1 5) 4 ≡ packed 1 1 1 1
+  pub falls : waited-on (packed 1 1 1 5) 3 ≡ packed 1 1 1 2
+  pub falls-last : waited-on (packed 1 1 1 5) 4 ≡ packed 1 0 1 1
   pub ends : waited-on (packed 1 1 1 5) 5 ≡ packed 1 0 0 0
   pub wakes : powered-on (packed 1 1 2 0) ≡ packed 1 0 0 0
   -- and after one that is ignored or refused: as they were
   pub ignored : after set-up (0x04 ∷ 0 ∷ []) ≡ set-up
   pub refused : waited-on (replicate 28 0xFF) 5 ≡ replicate 28 0xFF
+  -- the last tick with its latch set is 6, and so is a tick before it with its latch reset
+  pub latches : map (λ (b : List ℕ). checkedC (λ (d : Device). waitCall d 0) b .answer) (packed 0 1 1 1 ∷ packed 0 0 1 1 ∷ packed 0 1 1 2 ∷ packed 0 0 1 2 ∷ []) ≡ 6 ∷ 0 ∷ 0 ∷ 6 ∷ []
+  pub latches-sent : map (λ (b : List ℕ). sent b 4096 (0x05 ∷ []) 0 1 1) (packed 0 1 1 1 ∷ packed 0 0 1 1 ∷ packed 0 1 1 2 ∷ packed 0 0 1 2 ∷ []) ≡ 6 ∷ 0 ∷ 0 ∷ 6 ∷ []
 
 -- computed by the checker
 pub told : Told
@@ -89,8 +93,11 @@ told = record {
   disables = refl;
   sleeps = refl;
   falls = refl;
+  falls-last = refl;
   ends = refl;
   wakes = refl;
   ignored = refl;
   refused = refl;
+  latches = refl;
+  latches-sent = refl;
 }

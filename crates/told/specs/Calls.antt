@@ -24,10 +24,11 @@ use Rattle.chip.specs.Worked.{Step, sends, waits, starts, holds, sees, fresh, r
 abbrev pub Seen : Device → List Step → Type 0
 Seen d es = sees es (fresh d) ≡ true
 
--- a cycle of k ticks, one by one: a status until it ends, and another afterwards
-abbrev pub cycle : ℕ → ℕ → ℕ → List Step
-cycle zero busy idle = status idle ∷ []
-cycle (suc k) busy idle = status busy ∷ waits 1 ∷ cycle k busy idle
+-- a cycle of k ticks, one by one: a status until the last tick, another on it, a third afterwards
+abbrev pub cycle : ℕ → ℕ → ℕ → ℕ → List Step
+cycle zero busy last idle = status idle ∷ []
+cycle (suc zero) busy last idle = status last ∷ waits 1 ∷ cycle zero busy last idle
+cycle (suc (suc k)) busy last idle = status busy ∷ waits 1 ∷ cycle (suc k) busy last idle
 
 -- a transaction with W high and no further pulses, on an array of a length, every byte 11, and a response of a length, every byte 55
 abbrev pub handed : Device → ℕ → List ℕ → ℕ → Outcome
@@ -48,9 +49,9 @@ pub record Calls : Type 0 where
   -- RDSR: the status byte from byte 1, repeated; with one byte nothing; with further pulses the whole bytes
   pub rdsr : Seen (bench 2 true true) (reads (0x05 ∷ 0 ∷ 0 ∷ 0 ∷ []) 1 (0x8A ∷ 0x8A ∷ 0x8A ∷ []) ∷ answers (0x05 ∷ []) 0 ∷ sends true 7 (0x05 ∷ 0 ∷ []) (record { number = 0; first = 1; count = 1 }) (0xFF ∷ 0x8A ∷ []) ∷ [])
   -- WRSR: two ticks; SRWD and BP count at once
-  pub wrsr : Seen usual (answers (0x01 ∷ 0x84 ∷ []) 0 ∷ cycle 2 0x87 0x84)
+  pub wrsr : Seen usual (answers (0x01 ∷ 0x84 ∷ []) 0 ∷ cycle 2 0x87 0x85 0x84)
   -- WRSR: bits 6 to 4, 1 and 0 are ignored
-  pub wrsr-bits : Seen usual (answers (0x01 ∷ 0x73 ∷ []) 0 ∷ cycle 2 0x03 0x00)
+  pub wrsr-bits : Seen usual (answers (0x01 ∷ 0x73 ∷ []) 0 ∷ cycle 2 0x03 0x01 0x00)
   -- WRSR: the settings written protect and freeze
   pub wrsr-holds : Seen usual (answers (0x01 ∷ 0x84 ∷ []) 0 ∷ waits 2 ∷ answers (0x06 ∷ []) 0 ∷ answers (0x02 ∷ 0 ∷ 0x0C ∷ 0 ∷ 0 ∷ []) 17 ∷ told false 0 (0x01 ∷ 0 ∷ []) 18 ∷ answers (0x02 ∷ 0 ∷ 0x0B ∷ 0xFF ∷ 0 ∷ []) 0 ∷ holds 0xBFF 0x00 ∷ [])
   -- READ: from byte 4; with four bytes nothing
@@ -58,13 +59,13 @@ pub record Calls : Type 0 where
   -- FAST_READ: from byte 5; with five bytes nothing
   pub fast-read : Seen usual (answers (0x02 ∷ 0 ∷ 0 ∷ 0x10 ∷ 0x5A ∷ 0xC3 ∷ []) 0 ∷ waits 3 ∷ reads (0x0B ∷ 0 ∷ 0 ∷ 0x0F ∷ 0 ∷ 0 ∷ 0 ∷ 0 ∷ 0 ∷ []) 5 (0xFF ∷ 0x5A ∷ 0xC3 ∷ 0xFF ∷ []) ∷ answers (0x0B ∷ 0 ∷ 0 ∷ 0x10 ∷ 0 ∷ []) 0 ∷ status 0x00 ∷ [])
   -- PP: three ticks
-  pub pp : Seen usual (answers (0x02 ∷ 0 ∷ 0x01 ∷ 0x10 ∷ 0x5A ∷ []) 0 ∷ holds 0x10F 0xFF ∷ holds 0x110 0x5A ∷ holds 0x111 0xFF ∷ cycle 3 0x03 0x00)
+  pub pp : Seen usual (answers (0x02 ∷ 0 ∷ 0x01 ∷ 0x10 ∷ 0x5A ∷ []) 0 ∷ holds 0x10F 0xFF ∷ holds 0x110 0x5A ∷ holds 0x111 0xFF ∷ cycle 3 0x03 0x01 0x00)
   -- PP: 300 data bytes fill the page and go round
   pub pp-long : Seen usual (answers ((0x02 ∷ 0 ∷ 0x01 ∷ 0xF0 ∷ []) ++ replicate 300 0x0F) 0 ∷ holds 0x0FF 0xFF ∷ holds 0x100 0x0F ∷ holds 0x1FF 0x0F ∷ holds 0x200 0xFF ∷ [])
   -- SE: five ticks
-  pub se : Seen usual (answers (0x02 ∷ 0 ∷ 0x04 ∷ 0 ∷ 0 ∷ []) 0 ∷ waits 3 ∷ answers (0x06 ∷ []) 0 ∷ answers (0xD8 ∷ 0 ∷ 0x07 ∷ 0xFF ∷ []) 0 ∷ holds 0x400 0xFF ∷ cycle 5 0x03 0x00)
+  pub se : Seen usual (answers (0x02 ∷ 0 ∷ 0x04 ∷ 0 ∷ 0 ∷ []) 0 ∷ waits 3 ∷ answers (0x06 ∷ []) 0 ∷ answers (0xD8 ∷ 0 ∷ 0x07 ∷ 0xFF ∷ []) 0 ∷ holds 0x400 0xFF ∷ cycle 5 0x03 0x01 0x00)
   -- BE: nine ticks
-  pub be : Seen usual (answers (0x02 ∷ 0 ∷ 0x0F ∷ 0xFF ∷ 0 ∷ []) 0 ∷ waits 3 ∷ answers (0x06 ∷ []) 0 ∷ answers (0xC7 ∷ []) 0 ∷ holds 0xFFF 0xFF ∷ cycle 9 0x03 0x00)
+  pub be : Seen usual (answers (0x02 ∷ 0 ∷ 0x0F ∷ 0xFF ∷ 0 ∷ []) 0 ∷ waits 3 ∷ answers (0x06 ∷ []) 0 ∷ answers (0xC7 ∷ []) 0 ∷ holds 0xFFF 0xFF ∷ cycle 9 0x03 0x01 0x00)
   -- DP: only RES is heard, waiting does not wake, and the latch is kept
   pub dp : Seen usual (answers (0xB9 ∷ []) 0 ∷ answers (0x05 ∷ 0 ∷ []) 13 ∷ waits 9 ∷ answers (0x04 ∷ []) 13 ∷ answers (0xAB ∷ []) 0 ∷ status 0x02 ∷ [])
   pub dp-reset : Seen (bench 0 false false) (answers (0xB9 ∷ []) 0 ∷ answers (0x06 ∷ []) 13 ∷ answers (0xAB ∷ []) 0 ∷ status 0x00 ∷ [])

@@ -1,6 +1,6 @@
 -- What instructions do, part by part, told a second time, and computed: what is driven, the record after each instruction, where protection begins, which bytes change. Lengths are handed over as numbers.
 use mathlib.Core.Path.{_≡_, refl}
-use mathlib.Core.Bool.{true, false}
+use mathlib.Core.Bool.{Bool, true, false}
 use mathlib.Core.List.{List, [], _∷_, _++_, map}
 use Prim.Native.Nat.{ℕ, suc, _-_, _/_, _%_}
 use lib.ListN.{length, getD, take, replicate}
@@ -8,6 +8,7 @@ use Rattle.slices.specs.Changed.{mapAt, window, sumAt}
 use Rattle.memory.specs.Memory as memory-is
 use Rattle.parts.specs.Parts.{figuresOf}
 use Rattle.parts.specs.Protected.{protectedOf}
+use Rattle.device.specs.declared.Mode.{Mode}
 use Rattle.device.specs.declared.Mode.the-variants.{Standby, Busy, Deep}
 use Rattle.device.specs.declared.Device.{Device}
 use Rattle.device.specs.Device.{sound, statusByte, moded, latched, settled, running, latchAt}
@@ -76,8 +77,10 @@ pub record Lines : Type 0 where
   -- the other seven, and a code that is none
   pub others : map (λ (code : ℕ). line usual (sends code)) (0x06 ∷ 0x04 ∷ 0x01 ∷ 0x02 ∷ 0xD8 ∷ 0xC7 ∷ 0xB9 ∷ 0x9E ∷ []) ≡ replicate 8 mute
   -- busy: RDSR alone is heard
-  pub busy : line (record-of 0 0 false true (Busy 1)) (sends 0x05) ≡ always 0x03
-  pub busy-others : map (λ (code : ℕ). line (record-of 0 0 false true (Busy 1)) (sends code)) (0x9F ∷ 0x03 ∷ 0x0B ∷ 0xAB ∷ []) ≡ replicate 4 mute
+  pub busy : line (record-of 0 0 false true (Busy 2)) (sends 0x05) ≡ always 0x03
+  pub busy-last : line (record-of 0 0 false false (Busy 1)) (sends 0x05) ≡ always 0x01
+  pub busy-others : map (λ (code : ℕ). line (record-of 0 0 false true (Busy 2)) (sends code)) (0x9F ∷ 0x03 ∷ 0x0B ∷ 0xAB ∷ []) ≡ replicate 4 mute
+  pub last-others : map (λ (code : ℕ). line (record-of 0 0 false false (Busy 1)) (sends code)) (0x9F ∷ 0x03 ∷ 0x0B ∷ 0xAB ∷ []) ≡ replicate 4 mute
   -- deep power-down: RES alone is heard
   pub deep : line (record-of 0 0 false true Deep) (sends 0xAB) ≡ late 0x0B
   pub deep-others : map (λ (code : ℕ). line (record-of 0 0 false true Deep) (sends code)) (0x9F ∷ 0x05 ∷ 0x03 ∷ 0x0B ∷ []) ≡ replicate 4 mute
@@ -104,7 +107,9 @@ lines = record {
   reads-fast = refl;
   others = refl;
   busy = refl;
+  busy-last = refl;
   busy-others = refl;
+  last-others = refl;
   deep = refl;
   deep-others = refl;
 }
@@ -118,6 +123,10 @@ after d sent = outcomeOf (verdictOf d (getD sizes (d .part) 0) sent 0 true (leng
 -- the BP that WRSR sets on a part by BP 0 to 7 in bits 4 to 2, by FF, and by all bits but 4 to 2
 abbrev pub sets : ℕ → List ℕ
 sets p = map (λ (b : ℕ). after (part p 0) (0x01 ∷ b ∷ []) .bp) (0x00 ∷ 0x04 ∷ 0x08 ∷ 0x0C ∷ 0x10 ∷ 0x14 ∷ 0x18 ∷ 0x1C ∷ 0xFF ∷ 0xE3 ∷ [])
+
+-- an M25P32 whose cycles take one tick, by BP, SRWD, latch and mode
+abbrev pub brisk : ℕ → Bool → Bool → Mode → Device
+brisk b s l m = record { part = 3; bp = b; srwd = s; latch = l; mode = m; program = 1; «sector_erase» = 1; «bulk_erase» = 1; «write_status» = 1 }
 
 -- what each instruction does to the record
 pub record Turns : Type 0 where
@@ -133,6 +142,7 @@ pub record Turns : Type 0 where
   pub wrdi : after (record-of 3 2 true true Standby) (0x04 ∷ []) ≡ record-of 3 2 true false Standby
   pub rdid : after (record-of 3 2 true true Standby) (sends 0x9F) ≡ record-of 3 2 true true Standby
   pub rdsr : after (record-of 3 2 true true (Busy 4)) (sends 0x05) ≡ record-of 3 2 true true (Busy 4)
+  pub rdsr-last : after (record-of 3 2 true false (Busy 1)) (sends 0x05) ≡ record-of 3 2 true false (Busy 1)
   pub wrsr : after (record-of 3 2 true true Standby) (0x01 ∷ 0x74 ∷ []) ≡ record-of 3 5 false true (Busy 2)
   pub wrsr-srwd : after (record-of 3 2 false true Standby) (0x01 ∷ 0x80 ∷ []) ≡ record-of 3 0 true true (Busy 2)
   pub read : after (record-of 3 2 true true Standby) (sends 0x03) ≡ record-of 3 2 true true Standby
@@ -145,6 +155,11 @@ pub record Turns : Type 0 where
   pub res : after (record-of 3 2 true true Deep) (0xAB ∷ []) ≡ record-of 3 2 true true Standby
   pub res-reset : after (record-of 3 2 true false Deep) (sends 0xAB) ≡ record-of 3 2 true false Standby
   pub res-standby : after (record-of 3 2 true true Standby) (sends 0xAB) ≡ record-of 3 2 true true Standby
+  -- cycles of one tick: the latch is reset at once
+  pub wrsr-one : after (brisk 2 true true Standby) (0x01 ∷ 0x74 ∷ []) ≡ brisk 5 false false (Busy 1)
+  pub pp-one : after (brisk 2 true true Standby) (0x02 ∷ 0 ∷ 0 ∷ 0 ∷ 0 ∷ []) ≡ brisk 2 true false (Busy 1)
+  pub se-one : after (brisk 2 true true Standby) (0xD8 ∷ 0 ∷ 0 ∷ 0 ∷ []) ≡ brisk 2 true false (Busy 1)
+  pub be-one : after (brisk 0 true true Standby) (0xC7 ∷ []) ≡ brisk 0 true false (Busy 1)
   -- ignored: the record stays, latch included
   pub ignored : after (record-of 3 7 true true Standby) (0xC7 ∷ []) ≡ record-of 3 7 true true Standby
   -- B9 and AB are unknown on the M25P128
@@ -167,6 +182,7 @@ turns = record {
   wrdi = refl;
   rdid = refl;
   rdsr = refl;
+  rdsr-last = refl;
   wrsr = refl;
   wrsr-srwd = refl;
   read = refl;
@@ -174,6 +190,10 @@ turns = record {
   pp = refl;
   se = refl;
   be = refl;
+  wrsr-one = refl;
+  pp-one = refl;
+  se-one = refl;
+  be-one = refl;
   dp = refl;
   dp-reset = refl;
   res = refl;

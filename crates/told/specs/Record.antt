@@ -28,6 +28,14 @@ busy = of 2 5 true true (Busy 0x0A0B0C)
 abbrev pub busyBytes : List ℕ
 busyBytes = (2 ∷ 5 ∷ 1 ∷ 1 ∷ 1 ∷ 0 ∷ 0 ∷ 0 ∷ 0x0C ∷ 0x0B ∷ 0x0A ∷ 0 ∷ []) ++ durations
 
+-- the last tick of its cycle, latch reset
+abbrev pub last : Device
+last = of 2 5 true false (Busy 1)
+
+-- its packing
+abbrev pub lastBytes : List ℕ
+lastBytes = (2 ∷ 5 ∷ 1 ∷ 0 ∷ 1 ∷ 0 ∷ 0 ∷ 0 ∷ 1 ∷ 0 ∷ 0 ∷ 0 ∷ []) ++ durations
+
 -- an M25P32 in deep power-down, latch reset: no two fields are the same number
 abbrev pub deep : Device
 deep = of 3 6 true false Deep
@@ -65,10 +73,14 @@ pub record Changes : Type 0 where
   pub settings : settled busy false 2 ≡ of 2 2 false true (Busy 0x0A0B0C)
   pub wake : moded deep false Standby ≡ of 3 6 true false Standby
   pub cycle : running still 9 ≡ of 4 7 false true (Busy 9)
-  -- 'Waiting t ticks': fewer than are left fall off; otherwise standby, with the latch reset
+  pub cycle-two : running still 2 ≡ of 4 7 false true (Busy 2)
+  pub cycle-one : running still 1 ≡ of 4 7 false false (Busy 1)
+  -- 'Waiting t ticks': fewer than are left fall off; otherwise standby, with the latch reset. It is reset on the last tick already
   pub wait-none : waitCall (running still 9) 0 ≡ checked 0 (of 4 7 false true (Busy 9))
   pub wait-one : waitCall (running still 9) 1 ≡ checked 0 (of 4 7 false true (Busy 8))
-  pub wait-eight : waitCall (running still 9) 8 ≡ checked 0 (of 4 7 false true (Busy 1))
+  pub wait-seven : waitCall (running still 9) 7 ≡ checked 0 (of 4 7 false true (Busy 2))
+  pub wait-eight : waitCall (running still 9) 8 ≡ checked 0 (of 4 7 false false (Busy 1))
+  pub wait-last : waitCall (of 4 7 false false (Busy 1)) 0 ≡ checked 0 (of 4 7 false false (Busy 1))
   pub wait-nine : waitCall (running still 9) 9 ≡ checked 0 (of 4 7 false false Standby)
   pub wait-ten : waitCall (running still 9) 10 ≡ checked 0 (of 4 7 false false Standby)
   -- in standby and in deep power-down waiting changes nothing
@@ -77,10 +89,12 @@ pub record Changes : Type 0 where
   pub wait-enabled : waitCall (latched deep true) 1 ≡ checked 0 (of 3 6 true true Deep)
   -- 'Power-up': standby, latch reset, all else kept
   pub power-busy : powerUpCall busy ≡ checked 0 (of 2 5 true false Standby)
+  pub power-last : powerUpCall (of 4 7 true false (Busy 1)) ≡ checked 0 (of 4 7 true false Standby)
   pub power-deep : powerUpCall (latched deep true) ≡ checked 0 (of 3 6 true false Standby)
   pub power-still : powerUpCall still ≡ checked 0 (of 4 7 false false Standby)
   -- 6 hands the record back as it came
   pub wait-unsound : waitCall (of 3 5 true false (Busy 9)) 9 ≡ checked 6 (of 3 5 true false (Busy 9))
+  pub wait-unsound-last : waitCall (of 3 5 true true (Busy 1)) 1 ≡ checked 6 (of 3 5 true true (Busy 1))
   pub power-unsound : powerUpCall (of 4 7 true true Deep) ≡ checked 6 (of 4 7 true true Deep)
 
 -- computed by the checker
@@ -94,18 +108,24 @@ changes = record {
   settings = refl;
   wake = refl;
   cycle = refl;
+  cycle-two = refl;
+  cycle-one = refl;
   wait-none = refl;
   wait-one = refl;
+  wait-seven = refl;
   wait-eight = refl;
+  wait-last = refl;
   wait-nine = refl;
   wait-ten = refl;
   wait-still = refl;
   wait-deep = refl;
   wait-enabled = refl;
   power-busy = refl;
+  power-last = refl;
   power-deep = refl;
   power-still = refl;
   wait-unsound = refl;
+  wait-unsound-last = refl;
   power-unsound = refl;
 }
 
@@ -125,12 +145,13 @@ withPart l m = map (λ (p : ℕ). soundAnswer (of p 0 false l m)) (0 ∷ 1 ∷ 2
 
 -- which records are sound, and their status bytes
 pub record Soundness : Type 0 where
-  -- each duration, and ticks left, are 1 to 1,000,000
+  -- each duration, and ticks left, are 1 to 1,000,000; the latch is set exactly if more than one tick is left
   pub program : map (λ (x : ℕ). soundAnswer (delivered 0 x 5 9 2)) borders ≡ 6 ∷ 0 ∷ 0 ∷ 6 ∷ []
   pub sector-erase : map (λ (x : ℕ). soundAnswer (delivered 0 3 x 9 2)) borders ≡ 6 ∷ 0 ∷ 0 ∷ 6 ∷ []
   pub bulk-erase : map (λ (x : ℕ). soundAnswer (delivered 0 3 5 x 2)) borders ≡ 6 ∷ 0 ∷ 0 ∷ 6 ∷ []
   pub write-status : map (λ (x : ℕ). soundAnswer (delivered 0 3 5 9 x)) borders ≡ 6 ∷ 0 ∷ 0 ∷ 6 ∷ []
-  pub ticks : map (λ (x : ℕ). soundAnswer (of 4 7 false true (Busy x))) borders ≡ 6 ∷ 0 ∷ 0 ∷ 6 ∷ []
+  pub ticks-latch : map (λ (x : ℕ). soundAnswer (of 4 7 false true (Busy x))) (0 ∷ 1 ∷ 2 ∷ 1000000 ∷ 1000001 ∷ []) ≡ 6 ∷ 6 ∷ 0 ∷ 0 ∷ 6 ∷ []
+  pub ticks-reset : map (λ (x : ℕ). soundAnswer (of 4 7 false false (Busy x))) (0 ∷ 1 ∷ 2 ∷ 1000000 ∷ 1000001 ∷ []) ≡ 6 ∷ 0 ∷ 6 ∷ 6 ∷ 6 ∷ []
   -- the highest BP is 3, 3, 7, 7, 7, 3
   pub bp-bench : withBP 0 ≡ 0 ∷ 0 ∷ 0 ∷ 0 ∷ 6 ∷ 6 ∷ 6 ∷ 6 ∷ 6 ∷ []
   pub bp-m25p10a : withBP 1 ≡ 0 ∷ 0 ∷ 0 ∷ 0 ∷ 6 ∷ 6 ∷ 6 ∷ 6 ∷ 6 ∷ []
@@ -138,11 +159,13 @@ pub record Soundness : Type 0 where
   pub bp-m25p32 : withBP 3 ≡ 0 ∷ 0 ∷ 0 ∷ 0 ∷ 0 ∷ 0 ∷ 0 ∷ 0 ∷ 6 ∷ []
   pub bp-m25p128 : withBP 4 ≡ 0 ∷ 0 ∷ 0 ∷ 0 ∷ 0 ∷ 0 ∷ 0 ∷ 0 ∷ 6 ∷ []
   pub bp-older : withBP 5 ≡ 0 ∷ 0 ∷ 0 ∷ 0 ∷ 6 ∷ 6 ∷ 6 ∷ 6 ∷ 6 ∷ []
-  -- the part is 0 to 5, a busy record has its latch set, and the M25P128 is not in deep power-down
+  -- the part is 0 to 5, a busy record has its latch set but for the last tick, and the M25P128 is not in deep power-down
   pub standby : withPart false Standby ≡ 0 ∷ 0 ∷ 0 ∷ 0 ∷ 0 ∷ 0 ∷ 6 ∷ 6 ∷ []
   pub standby-latch : withPart true Standby ≡ 0 ∷ 0 ∷ 0 ∷ 0 ∷ 0 ∷ 0 ∷ 6 ∷ 6 ∷ []
-  pub busy-latch : withPart true (Busy 1) ≡ 0 ∷ 0 ∷ 0 ∷ 0 ∷ 0 ∷ 0 ∷ 6 ∷ 6 ∷ []
-  pub busy-reset : withPart false (Busy 1) ≡ 6 ∷ 6 ∷ 6 ∷ 6 ∷ 6 ∷ 6 ∷ 6 ∷ 6 ∷ []
+  pub busy-latch : withPart true (Busy 2) ≡ 0 ∷ 0 ∷ 0 ∷ 0 ∷ 0 ∷ 0 ∷ 6 ∷ 6 ∷ []
+  pub busy-reset : withPart false (Busy 2) ≡ 6 ∷ 6 ∷ 6 ∷ 6 ∷ 6 ∷ 6 ∷ 6 ∷ 6 ∷ []
+  pub last-latch : withPart true (Busy 1) ≡ 6 ∷ 6 ∷ 6 ∷ 6 ∷ 6 ∷ 6 ∷ 6 ∷ 6 ∷ []
+  pub last-reset : withPart false (Busy 1) ≡ 0 ∷ 0 ∷ 0 ∷ 0 ∷ 0 ∷ 0 ∷ 6 ∷ 6 ∷ []
   pub deep-latch : withPart true Deep ≡ 0 ∷ 0 ∷ 0 ∷ 0 ∷ 6 ∷ 0 ∷ 6 ∷ 6 ∷ []
   pub deep-reset : withPart false Deep ≡ 0 ∷ 0 ∷ 0 ∷ 0 ∷ 6 ∷ 0 ∷ 6 ∷ 6 ∷ []
   pub all-zero : soundAnswer zeroRecord ≡ 6
@@ -151,6 +174,7 @@ pub record Soundness : Type 0 where
   pub bit-srwd : statusByte (of 3 0 true false Standby) ≡ 0x80
   pub bit-latch : statusByte (of 3 0 false true Standby) ≡ 0x02
   pub bits-busy : statusByte (of 3 0 false true (Busy 7)) ≡ 0x03
+  pub bits-last : statusByte (of 3 0 false false (Busy 1)) ≡ 0x01
   pub bits-deep : statusByte (of 3 0 false true Deep) ≡ 0x02
   pub bits-all : statusByte busy ≡ 0x97
 
@@ -162,7 +186,8 @@ soundness = record {
   sector-erase = refl;
   bulk-erase = refl;
   write-status = refl;
-  ticks = refl;
+  ticks-latch = refl;
+  ticks-reset = refl;
   bp-bench = refl;
   bp-m25p10a = refl;
   bp-m25p40 = refl;
@@ -173,6 +198,8 @@ soundness = record {
   standby-latch = refl;
   busy-latch = refl;
   busy-reset = refl;
+  last-latch = refl;
+  last-reset = refl;
   deep-latch = refl;
   deep-reset = refl;
   all-zero = refl;
@@ -180,6 +207,7 @@ soundness = record {
   bit-srwd = refl;
   bit-latch = refl;
   bits-busy = refl;
+  bits-last = refl;
   bits-deep = refl;
   bits-all = refl;
 }
@@ -198,9 +226,11 @@ places = 0 ∷ 1 ∷ 2 ∷ 3 ∷ 4 ∷ 5 ∷ 6 ∷ 7 ∷ 8 ∷ 9 ∷ 10 ∷ 11 �
 pub record Packings : Type 0 where
   -- both ways
   pub packs-busy : packOf busy ≡ busyBytes
+  pub packs-last : packOf last ≡ lastBytes
   pub packs-deep : packOf deep ≡ deepBytes
   pub packs-still : packOf still ≡ stillBytes
   pub unpacks-busy : unpackOf busyBytes ≡ checked 0 busy
+  pub unpacks-last : unpackOf lastBytes ≡ checked 0 last
   pub unpacks-deep : unpackOf deepBytes ≡ checked 0 deep
   pub unpacks-still : unpackOf stillBytes ≡ checked 0 still
   -- 8 before 6, each with nothing written; and both alone
@@ -217,11 +247,12 @@ pub record Packings : Type 0 where
   pub twos : map (damaged busyBytes 2) places ≡ 0 ∷ 0 ∷ 6 ∷ 6 ∷ 6 ∷ 6 ∷ 6 ∷ 6 ∷ 0 ∷ 0 ∷ 0 ∷ 6 ∷ 0 ∷ 0 ∷ 0 ∷ 6 ∷ 0 ∷ 0 ∷ 0 ∷ 6 ∷ 0 ∷ 0 ∷ 0 ∷ 6 ∷ 0 ∷ 0 ∷ 0 ∷ 6 ∷ []
   -- 01 in each place of a deep record in turn: the M25P10-A has no BP 6; busy without ticks, padding, ticks left and the high byte of a duration refuse it too
   pub ones : map (damaged deepBytes 1) places ≡ 6 ∷ 0 ∷ 0 ∷ 0 ∷ 6 ∷ 6 ∷ 6 ∷ 6 ∷ 6 ∷ 6 ∷ 6 ∷ 6 ∷ 0 ∷ 0 ∷ 0 ∷ 6 ∷ 0 ∷ 0 ∷ 0 ∷ 6 ∷ 0 ∷ 0 ∷ 0 ∷ 6 ∷ 0 ∷ 0 ∷ 0 ∷ 6 ∷ []
-  -- the mode byte 0 to 3: with ticks left busy alone, without them all but busy, on the M25P128 standby alone; and a busy record with its latch reset
+  -- the mode byte 0 to 3: with ticks left busy alone, without them all but busy, on the M25P128 standby alone; then a busy record with its latch reset, and the last tick with its latch set, each refused
   pub modes-busy : map (λ (m : ℕ). damaged busyBytes m 4) (0 ∷ 1 ∷ 2 ∷ 3 ∷ []) ≡ 6 ∷ 0 ∷ 6 ∷ 6 ∷ []
   pub modes-deep : map (λ (m : ℕ). damaged deepBytes m 4) (0 ∷ 1 ∷ 2 ∷ 3 ∷ []) ≡ 0 ∷ 6 ∷ 0 ∷ 6 ∷ []
   pub modes-still : map (λ (m : ℕ). damaged stillBytes m 4) (0 ∷ 1 ∷ 2 ∷ 3 ∷ []) ≡ 0 ∷ 6 ∷ 6 ∷ 6 ∷ []
   pub latch-reset : damaged busyBytes 0 3 ≡ 6
+  pub latch-last : damaged lastBytes 1 3 ≡ 6
   -- a deep M25P32 as other parts: BP 6 is too high for the bench part and both M25P10-A, and the M25P128 is never deep
   pub parts : map (λ (p : ℕ). damaged deepBytes p 0) (0 ∷ 1 ∷ 2 ∷ 3 ∷ 4 ∷ 5 ∷ 6 ∷ []) ≡ 6 ∷ 6 ∷ 0 ∷ 0 ∷ 6 ∷ 6 ∷ 6 ∷ []
 
@@ -230,9 +261,11 @@ pub packings : Packings
 unfolding zeroRecord delivered latchAt sound packOf fieldsOf formed packAnswer unpackAnswer unpackOf figuresOf
 packings = record {
   packs-busy = refl;
+  packs-last = refl;
   packs-deep = refl;
   packs-still = refl;
   unpacks-busy = refl;
+  unpacks-last = refl;
   unpacks-deep = refl;
   unpacks-still = refl;
   pack-answers = refl;
@@ -249,5 +282,6 @@ packings = record {
   modes-deep = refl;
   modes-still = refl;
   latch-reset = refl;
+  latch-last = refl;
   parts = refl;
 }

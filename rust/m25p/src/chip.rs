@@ -70,7 +70,7 @@ impl Chip {
         reply.answer().executed().map(|()| output)
     }
 
-    /// Lets ticks pass; a cycle with no more ticks left ends.
+    /// Lets ticks pass; a cycle with no more ticks left ends. In its last tick the latch is reset already.
     pub fn wait(&mut self, ticks: u32) {
         let reply = calls::wait(&mut self.record, ticks);
         assert_eq!(reply.answer(), Answer::Executed, "a chip's record is sound");

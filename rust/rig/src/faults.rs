@@ -33,6 +33,11 @@ pub const CHIP: &[(&str, &dyn Model)] = named![
     BitFourKept,
     DeepResetsLatch,
     LastTickMissed,
+    // the latch falls with the busy bit
+    LatchInCycle(true),
+    // the latch falls as the cycle starts
+    LatchInCycle(false),
+    BusyLatchUnchecked,
     LatchKeptAfterCycle,
     // protection is looked at before the latch
     LooksInOrder([11, 14, 12, 13, 15, 17, 16, 18]),
@@ -259,6 +264,31 @@ impl Model for LastTickMissed {
     }
 }
 
+/// The latch is the same all through a cycle.
+struct LatchInCycle(bool);
+
+impl Model for LatchInCycle {
+    fn cycle(&self, r: &mut Record, left: u32) {
+        r.mode = Mode::Busy(left);
+        r.latch = self.0;
+    }
+}
+
+/// The latch of a busy record is not looked at.
+struct BusyLatchUnchecked;
+
+impl Model for BusyLatchUnchecked {
+    fn unpack(&self, record: &[u8]) -> Result<Record, u8> {
+        let mut bytes = record.to_vec();
+        let unpacked = Paper.unpack(record);
+        if unpacked == Err(6) {
+            bytes[3] ^= 1;
+            return Paper.unpack(&bytes);
+        }
+        unpacked
+    }
+}
+
 /// The latch outlives the cycle.
 struct LatchKeptAfterCycle;
 
@@ -267,7 +297,11 @@ impl Model for LatchKeptAfterCycle {
         let latch = Paper.unpack(record).is_ok_and(|r| r.latch);
         let outcome = Paper.wait(record, ticks);
         if outcome.answer == 0 {
-            amend(record, |r| r.latch = latch);
+            amend(record, |r| {
+                if r.mode == Mode::Standby {
+                    r.latch = latch;
+                }
+            });
         }
         outcome
     }

@@ -233,7 +233,10 @@ impl Generator {
             part: part as u8,
             bp: self.rng.pick(&[0, bp]),
             srwd: self.rng.one_in(3),
-            latch: matches!(mode, Mode::Busy(_)) || self.rng.one_in(2),
+            latch: match mode {
+                Mode::Busy(left) => latch_at(left),
+                _ => self.rng.one_in(2),
+            },
             mode,
             program: self.duration(),
             sector_erase: self.duration(),
@@ -258,7 +261,13 @@ impl Generator {
                 let number = self.rng.pick(&wrong);
                 bytes[field..field + 4].copy_from_slice(&number.to_le_bytes());
             }
-            6 => bytes = Record { mode: Mode::Busy(1), latch: false, ..*now }.pack(),
+            6 => {
+                let random = self.duration();
+                let left = self.rng.pick(&[1, 2, random]);
+                let right = self.rng.one_in(4);
+                let latch = latch_at(left) == right;
+                bytes = Record { mode: Mode::Busy(left), latch, ..*now }.pack();
+            }
             _ => bytes = Record { mode: Mode::Deep, ..*now }.pack(),
         }
         bytes

@@ -6,7 +6,7 @@ mod part;
 mod record;
 
 pub use part::{Part, PARTS, SMALL};
-pub use record::{is_duration, Mode, Packed, Record, RECORD_BYTES};
+pub use record::{is_duration, latch_at, Mode, Packed, Record, RECORD_BYTES};
 
 pub const WREN: u8 = 0x06;
 pub const WRDI: u8 = 0x04;
@@ -117,7 +117,7 @@ pub trait Model: Sync {
         };
         if let Mode::Busy(left) = r.mode {
             if ticks < left {
-                r.mode = Mode::Busy(left - ticks);
+                self.cycle(&mut r, left - ticks);
             } else {
                 r.mode = Mode::Standby;
                 r.latch = false;
@@ -275,25 +275,30 @@ pub trait Model: Sync {
             WRSR => {
                 r.srwd = sent[1] & 0x80 != 0;
                 r.bp = self.bp(part, sent[1]);
-                r.mode = Mode::Busy(r.write_status);
+                self.cycle(r, r.write_status);
             }
             PP => {
                 self.program(array, address(part, sent), &sent[4..]);
-                r.mode = Mode::Busy(r.program);
+                self.cycle(r, r.program);
             }
             SE => {
                 let start = address(part, sent) / part.sector_bytes * part.sector_bytes;
                 array[start..start + part.sector_bytes].fill(0xFF);
-                r.mode = Mode::Busy(r.sector_erase);
+                self.cycle(r, r.sector_erase);
             }
             BE => {
                 self.bulk_erase(r, array);
-                r.mode = Mode::Busy(r.bulk_erase);
+                self.cycle(r, r.bulk_erase);
             }
             DP => r.mode = Mode::Deep,
             RES => r.mode = Mode::Standby,
             _ => {}
         }
+    }
+
+    /// Into a cycle with so many ticks left.
+    fn cycle(&self, r: &mut Record, left: u32) {
+        r.cycle(left);
     }
 
     /// BP in a status byte: bits 4 to 2, or bits 3 and 2 where the highest BP is 3.

@@ -1,5 +1,5 @@
-//! The model on the worked cases K1 to K15 and on those of the older M25P10-A, and the bench model on the
-//! worked example.
+//! The model on the worked cases K1 to K15, on cycles of one tick and on the older M25P10-A; and the bench
+//! model on the worked example.
 
 use rig::bench_model::{self, Line};
 use rig::model::{Mode, Model, Outcome, Packed, Paper, Record, Transaction};
@@ -130,13 +130,13 @@ fn k11_wrong_form() {
 }
 
 #[test]
-fn k12_busy_and_latch_fall_together() {
+fn k12_latch_falls_before_busy() {
     let mut chip = case(worked());
     assert_eq!(chip.answer(&[0x02, 0, 0, 0, 0]), 0);
-    chip.wait(2);
-    assert_eq!(chip.status(), 0x03);
-    chip.wait(1);
-    assert_eq!(chip.status(), 0x00);
+    for status in [0x03, 0x01, 0x00] {
+        chip.wait(1);
+        assert_eq!(chip.status(), status);
+    }
 }
 
 #[test]
@@ -156,6 +156,36 @@ fn k14_no_signature() {
 fn k15_latch_before_protection() {
     let mut chip = case(Record { latch: false, bp: 3, ..worked() });
     assert_eq!(chip.answer(&[0xD8, 0, 0, 0]), 16);
+}
+
+/// A cycle of one tick starts with the latch reset.
+#[test]
+fn cycles_of_one_tick() {
+    let one = Record { program: 1, sector_erase: 1, bulk_erase: 1, write_status: 1, ..worked() };
+    for (sent, busy, after) in [
+        (&[0x02, 0, 0, 0, 0][..], 0x01, 0x00),
+        (&[0xD8, 0, 0, 0], 0x01, 0x00),
+        (&[0xC7], 0x01, 0x00),
+        (&[0x01, 0xFF], 0x8D, 0x8C),
+    ] {
+        let mut chip = case(one);
+        assert_eq!(chip.answer(sent), 0);
+        assert_eq!((chip.status(), chip.answer(&[0x06])), (busy, 12));
+        chip.wait(0);
+        assert_eq!(chip.status(), busy);
+        chip.wait(1);
+        assert_eq!(chip.status(), after);
+    }
+}
+
+/// A busy record is sound with the latch set exactly if more than one tick is left.
+#[test]
+fn sound_latches() {
+    for (left, set, reset) in [(0, false, false), (1, false, true), (2, true, false)] {
+        let busy = Record { mode: Mode::Busy(left), ..worked() };
+        let sound = |latch| Record::unpack(&Record { latch, ..busy }.pack()).is_some();
+        assert_eq!((sound(true), sound(false)), (set, reset), "{left} ticks left");
+    }
 }
 
 /// 9F gives 14 and drives nothing, whatever the mode; RES drives 10, and releases from deep power-down.

@@ -284,12 +284,14 @@ fn ignored_transactions_do_not_refuse_the_run() {
 
 #[test]
 fn no_ticks_pass_within_a_run() {
-    let busy = Record { mode: Mode::Busy(1), latch: true, ..worked() };
-    let mut case = case(busy);
-    let words = format!("s {}S ", clocked(&[0x05, 0x00])).repeat(3);
-    let (outcome, _) = case.run(&words, 0);
-    assert_eq!(outcome.chip, [0, 0, 0]);
-    assert_eq!(Record::unpack(&case.record), Some(busy));
+    for (left, latch) in [(2, true), (1, false)] {
+        let busy = Record { mode: Mode::Busy(left), latch, ..worked() };
+        let mut case = case(busy);
+        let words = format!("s {}S ", clocked(&[0x05, 0x00])).repeat(3);
+        let (outcome, _) = case.run(&words, 0);
+        assert_eq!(outcome.chip, [0, 0, 0]);
+        assert_eq!(Record::unpack(&case.record), Some(busy));
+    }
 }
 
 #[test]
@@ -355,10 +357,11 @@ fn output_bytes_beyond_the_samples_are_untouched() {
 #[test]
 fn driven_after_the_bytes_before() {
     let mut rng = Rng::new(1);
-    for mode in [Mode::Standby, Mode::Busy(1), Mode::Deep] {
+    let busy = [(Mode::Busy(2), true), (Mode::Busy(1), false)];
+    for (mode, latch) in [(Mode::Standby, true), (Mode::Deep, true)].into_iter().chain(busy) {
         for code in CODES.into_iter().chain([0x00, 0x9E]) {
             for n in 1..9 {
-                let start = Record { mode, latch: true, bp: 0, ..worked() };
+                let start = Record { mode, latch, bp: 0, ..worked() };
                 let (mut chip, array) = (case(start), case(start).array);
                 let mut sent = rng.bytes(n);
                 sent[0] = code;

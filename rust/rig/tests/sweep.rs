@@ -14,7 +14,8 @@ fn states(part: u8) -> Vec<Record> {
         Record { latch: false, ..standby },
         Record { bp: 1, srwd: true, ..standby },
         Record { bp: highest, srwd: true, latch: false, ..standby },
-        Record { mode: Mode::Busy(1), ..standby },
+        Record { mode: Mode::Busy(1), latch: false, ..standby },
+        Record { mode: Mode::Busy(2), ..standby },
         Record { mode: Mode::Busy(1_000_000), bp: highest, srwd: true, ..standby },
     ];
     if PARTS[part as usize].signature.is_some() {

@@ -137,7 +137,7 @@ fn time() {
     let start = [operation(&[0x06], 0), operation(&[0xD8, 0, 0, 0], 0)].concat();
     hear(board, &start);
     let polls = (0..9).map(|_| status(board)).collect::<Vec<u8>>();
-    assert_eq!(polls, [3; 9]);
+    assert_eq!(polls, [3, 3, 3, 3, 3, 3, 3, 3, 1], "the latch falls one tick before the end");
     assert_eq!(status(board), 0);
 
     hear(board, &[start.clone(), delay(7_999)].concat());
@@ -145,12 +145,12 @@ fn time() {
     hear(board, &[delay(4_999), delay(2_001), vec![O_EXEC]].concat());
     assert_eq!(status(board), 3, "8 of 10 ticks have passed");
     hear(board, &[delay(999), vec![O_EXEC]].concat());
-    assert_eq!(status(board), 3, "9 of 10 ticks have passed");
+    assert_eq!(status(board), 1, "9 of 10 ticks have passed");
     assert_eq!(status(board), 0);
 
     hear(board, &[start.clone(), delay(4_999), vec![O_EXEC]].concat());
     hear(board, &[delay(2_002), vec![O_EXEC]].concat());
-    assert_eq!(status(board), 3, "7,001 microseconds and the 999 that were left are 8 ticks");
+    assert_eq!(status(board), 1, "7,001 microseconds and the 999 that were left are 8 ticks");
     assert_eq!(status(board), 0);
 
     hear(board, &[start, delay(u32::MAX).repeat(9_000), vec![O_EXEC]].concat());

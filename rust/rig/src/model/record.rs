@@ -34,6 +34,11 @@ pub fn is_duration(ticks: u32) -> bool {
     (1..=1_000_000).contains(&ticks)
 }
 
+/// The latch with so many ticks of a cycle left.
+pub fn latch_at(left: u32) -> bool {
+    left > 1
+}
+
 fn number(bytes: &[u8], at: usize) -> u32 {
     u32::from_le_bytes([bytes[at], bytes[at + 1], bytes[at + 2], bytes[at + 3]])
 }
@@ -74,9 +79,15 @@ impl Record {
             && durations.into_iter().all(is_duration)
             && match self.mode {
                 Mode::Standby => true,
-                Mode::Busy(left) => is_duration(left) && self.latch,
+                Mode::Busy(left) => is_duration(left) && self.latch == latch_at(left),
                 Mode::Deep => self.part != 4,
             }
+    }
+
+    /// Into a cycle with so many ticks left.
+    pub fn cycle(&mut self, left: u32) {
+        self.mode = Mode::Busy(left);
+        self.latch = latch_at(left);
     }
 
     pub fn status(&self) -> u8 {

@@ -105,19 +105,19 @@ impl Chip<'_> {
             (RES, _, _) if sleeps => self.record.mode = Mode::Standby,
             (WRSR, 2, 0) if r.latch && (w || !r.srwd) => {
                 self.write_status();
-                self.record.mode = Mode::Busy(r.write_status);
+                self.record.cycle(r.write_status);
             }
             (PP, 5.., 0) if r.latch && self.open_sector() => {
                 self.program();
-                self.record.mode = Mode::Busy(r.program);
+                self.record.cycle(r.program);
             }
             (SE, 4, 0) if r.latch && self.open_sector() => {
                 self.erase_sector();
-                self.record.mode = Mode::Busy(r.sector_erase);
+                self.record.cycle(r.sector_erase);
             }
             (BE, 1, 0) if r.latch && r.bp == 0 => {
                 self.array.fill(0xFF);
-                self.record.mode = Mode::Busy(r.bulk_erase);
+                self.record.cycle(r.bulk_erase);
             }
             _ => {}
         }
