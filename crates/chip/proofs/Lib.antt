@@ -7,5 +7,6 @@ pub mod Laws
 pub mod Rules
 pub mod Events
 pub mod Reading
+pub mod Busy
 pub mod Older
 pub mod Worked
