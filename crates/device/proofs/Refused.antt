@@ -1,4 +1,4 @@
--- Byte strings that unpack refuses, computed: each differs from an accepted one in a byte or two.
+-- Byte strings that unpack refuses, and accepted ones beside them, computed: each differs from the first in one to three bytes.
 -- Assumes nothing.
 use mathlib.Core.Path.{_≡_, refl}
 use mathlib.Core.List.{List, [], _∷_}

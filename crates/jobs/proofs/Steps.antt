@@ -6,7 +6,7 @@ use mathlib.Core.Bool.{Bool, true, false, cond, not, _||_, false≢true}
 use mathlib.Core.List.{List, [], _∷_}
 use Prim.Native.Nat.{ℕ, _≤_}
 use native.Mathlib.Omega.{arith}
-use borrow.Author.Tests.{eqb-true, le-ltb}
+use borrow.Author.Tests.{eqb-true}
 use lib.Dec.{eqb, ltb, eqb·suc-zero}
 use lib.ListN.{length, getD, replicate, length-replicate}
 use Rattle.slices.specs.Changed.{mapAt}
@@ -17,7 +17,7 @@ use Rattle.parts.specs.Parts.{figuresOf}
 use Rattle.device.specs.declared.Mode.the-variants.{Standby}
 use Rattle.device.specs.declared.Device.{Device}
 use Rattle.device.specs.Device.{sound, rangedOf, moded, latched, running, waited, soundAnswer, waitCall}
-use Rattle.device.proofs.Sound.{sound-has, standby-sound, running-sound}
+use Rattle.device.proofs.Sound.{sound-has, standby-sound, running-sound, over}
 use Rattle.chip.specs.Table.{rowOf, addressOf, rowIn}
 use Rattle.chip.specs.Answers.{hostNumber, chipNumber, asNeeded, inProtected, decided, verdictOf}
 use Rattle.chip.specs.Change.{changed, asItWas, turned}
@@ -140,10 +140,10 @@ unfolding waitCall soundAnswer waited moded
 still-waits d s = (rw (rest-sound d true s), (true, rw (rest-sound d true s)))
 
 busy-waits : (d : Device) → sound d ≡ true → (t : ℕ) → rangedOf t ≡ true → t ≤ longestCycle d → Waits d (running (resting d true) t)
-unfolding waitCall soundAnswer waited running moded
+unfolding waitCall soundAnswer moded
 busy-waits d s t r h =
     let k = running-sound (resting d true) t (rest-sound d true s) r in
-    (rw k, (false, rw (k, le-ltb (longestCycle d) t h)))
+    (rw k, (false, rw k (over (resting d true) t (longestCycle d) h)))
 
 -- ---- the four calls of a job, from standby
 
