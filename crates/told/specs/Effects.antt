@@ -270,6 +270,8 @@ pub record Places : Type 0 where
   -- high byte first, modulo the part's size, and so is where protection begins
   pub address : map (λ (p : ℕ). addressOf (figuresOf p) (0x03 ∷ 0xFD ∷ 0xEC ∷ 0xBA ∷ [])) (0 ∷ 1 ∷ 2 ∷ 3 ∷ 4 ∷ 5 ∷ []) ≡ 0x000CBA ∷ 0x01ECBA ∷ 0x05ECBA ∷ 0x3DECBA ∷ 0xFDECBA ∷ 0x01ECBA ∷ []
   pub beyond : edge (part 0 1) 0xFFFC00 ∷ edge (part 1 1) 0xFF8000 ∷ edge (part 2 1) 0xFF0000 ∷ edge (part 3 1) 0xFF0000 ∷ edge (part 4 1) 0xFC0000 ∷ edge (part 5 1) 0xFF8000 ∷ [] ≡ replicate 6 (0 ∷ 0 ∷ 17 ∷ 17 ∷ [])
+  -- address bytes that were not sent count as 00
+  pub address-short : map (addressOf (figuresOf 4)) ([] ∷ (0x03 ∷ []) ∷ (0x03 ∷ 0xFD ∷ []) ∷ (0x03 ∷ 0xFD ∷ 0xEC ∷ []) ∷ []) ≡ 0 ∷ 0 ∷ 0xFD0000 ∷ 0xFDEC00 ∷ []
   -- SE: the second sector becomes FF, by its last byte's address; the bytes on either side stay
   pub sector-bench : become 0 (erase 0x0007FF) (0x0003FF ∷ 0x000400 ∷ 0x0007FF ∷ 0x000800 ∷ []) ≡ 0x3C ∷ 0xFF ∷ 0xFF ∷ 0x3C ∷ []
   pub sector-m25p10a : become 1 (erase 0x00FFFF) (0x007FFF ∷ 0x008000 ∷ 0x00FFFF ∷ 0x010000 ∷ []) ≡ 0x3C ∷ 0xFF ∷ 0xFF ∷ 0x3C ∷ []
@@ -316,6 +318,7 @@ places = record {
   bulk-m25p128 = refl;
   address = refl;
   beyond = refl;
+  address-short = refl;
   sector-bench = refl;
   sector-m25p10a = refl;
   sector-m25p40 = refl;
