@@ -63,6 +63,10 @@ bench b s l = record-of 0 b s l Standby
 abbrev pub usual : Device
 usual = bench 0 false true
 
+-- the same with durations of 1
+abbrev pub quick : Device
+quick = record { part = 0; bp = 0; srwd = false; latch = true; mode = Standby; program = 1; «sector_erase» = 1; «bulk_erase» = 1; «write_status» = 1 }
+
 -- a transaction: level of W, further pulses, the bytes; then the whole answer and the line
 abbrev pub sends : Bool → ℕ → List ℕ → Answer → List ℕ → Step
 sends w p bytes a r = tells (chip.sends bytes p w) a r
@@ -232,7 +236,7 @@ older-deep = record { device = record-of 5 0 false true Deep; steps = answers (0
 -- durations of 1: status 01 at once, and 00 after waiting 1; what may be done in the cycle stays the same
 abbrev pub one-tick : Case
 one-tick = record {
-  device = record { part = 0; bp = 0; srwd = false; latch = true; mode = Standby; program = 1; «sector_erase» = 1; «bulk_erase» = 1; «write_status» = 1 };
+  device = quick;
   steps =
       answers (0x02 ∷ 0 ∷ 0 ∷ 0 ∷ 0x5A ∷ []) 0 ∷ status 0x01 ∷ answers (0x06 ∷ []) 12 ∷ waits 0 ∷ status 0x01 ∷ waits 1 ∷ status 0x00 ∷ holds 0 0x5A
       ∷ answers (0x06 ∷ []) 0 ∷ answers (0xD8 ∷ 0 ∷ 0 ∷ 0 ∷ []) 0 ∷ status 0x01 ∷ waits 1 ∷ status 0x00 ∷ holds 0 0xFF
