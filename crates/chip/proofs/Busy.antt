@@ -1,13 +1,14 @@
 -- A chip in a cycle, its record sound or not: none of the chip's numbers depends on its latch, no transaction changes record or array, and nothing but the status byte is driven.
 -- Assumes nothing.
-use mathlib.Core.Path.{_≡_, refl, sym}
-use mathlib.Core.Bool.{Bool, true, false, cond, false≢true}
+use mathlib.Core.Path.{_≡_, refl, sym, _∙_}
+use mathlib.Core.Bool.{Bool, true, false, cond, not, false≢true}
 use mathlib.Core.List.{List, [], _∷_}
 use Prim.Native.Nat.{ℕ, _≤_}
 use native.Mathlib.Omega.{arith}
 use borrow.Author.Tests.{eqb-true, le-leb}
 use lib.Dec.{eqb, leb}
-use lib.ListN.{length, getD}
+use lib.ListN.{length, getD, take}
+use Rattle.slices.specs.Changed.{sumAt}
 use Rattle.slices.proofs.Choices.{cond-ind}
 use Rattle.slices.proofs.Maps.{map-same}
 use Rattle.parts.specs.declared.Figures.{Figures}
@@ -18,20 +19,31 @@ use Rattle.device.specs.declared.Device.{Device}
 use Rattle.device.specs.Device.{isBusy, isDeep, latched, statusByte}
 use Rattle.chip.specs.declared.table.Turn.the-variants.{Keep}
 use Rattle.chip.specs.Table.{rowOf}
-use Rattle.chip.specs.Answers.{chipNumber}
-use Rattle.chip.specs.Line.{Driven, silent, drives, byRow, heard, heardRow, driven}
+use Rattle.chip.specs.Answers.{asNeeded, chipNumber}
+use Rattle.chip.specs.Line.{Driven, silent, drives, byRow, heard, heardRow, driven, driving, drivingAt, firstFrom, firstOf, countOf}
 use Rattle.chip.specs.Change.{changed, turned}
 use Rattle.chip.specs.Outcome.{Outcome, outcomeOf, transacted}
 use Rattle.chip.proofs.Rows.{rows-ind}
 use Rattle.chip.proofs.Rules.{outcome-ind}
 
--- RDSR needs no latch, and all else gets 11, 14 or 12 before the latch is looked at; that is so of the rule, as at most one of the two records is sound
+awake : (m : Mode) → isBusy m ≡ true → isDeep m ≡ false
+awake Standby h = refl
+awake (Busy left) h = refl
+awake Deep h = absurd (false≢true h)
+
+-- no bytes 11, an unknown code 14, all but RDSR 12; RDSR 0, or 15 where n is not as needed. BP, SRWD, W, the address and the latch do not count
+pub busy-number : (d : Device) (n pulses : ℕ) (w : Bool) (at : ℕ) → isBusy (d .mode) ≡ true → (f : Figures) (code : ℕ)
+    → chipNumber d (rowOf f code) n pulses w at ≡ cond (eqb n 0) 11 (cond (not (rowOf f code .known)) 14 (cond (rowOf f code .busy) (cond (not (asNeeded (rowOf f code) n pulses)) 15 0) 12))
+unfolding chipNumber
+busy-number d n pulses w at h f =
+    rows-ind (λ code r. chipNumber d r n pulses w at ≡ cond (eqb n 0) 11 (cond (not (r .known)) 14 (cond (r .busy) (cond (not (asNeeded r n pulses)) 15 0) 12))) f
+    (rw h) (rw h) (λ e. rw h) (rw (h, awake (d .mode) h)) (rw h) (rw h) (rw h) (rw h) (rw h) (rw h) (λ e. rw h) (λ e. rw h) (λ code. refl)
+
+-- with two latches at most one record is sound, so this is said of the chip's rule alone
 pub latch-unread : (d : Device) (l : Bool) (n pulses : ℕ) (w : Bool) (at : ℕ) → isBusy (d .mode) ≡ true → (f : Figures) (code : ℕ)
     → chipNumber (latched d l) (rowOf f code) n pulses w at ≡ chipNumber d (rowOf f code) n pulses w at
-unfolding chipNumber latched
-latch-unread d l n pulses w at h f =
-    rows-ind (λ code r. chipNumber (latched d l) r n pulses w at ≡ chipNumber d r n pulses w at) f
-    (rw h) (rw h) (λ e. rw h) refl (rw h) (rw h) (rw h) (rw h) (rw h) (rw h) (λ e. rw h) (λ e. rw h) (λ code. refl)
+unfolding latched
+latch-unread d l n pulses w at h f code = busy-number (latched d l) n pulses w at h f code ∙ sym (busy-number d n pulses w at h f code)
 
 -- what a busy chip takes changes nothing
 keeps : (f : Figures) (code : ℕ) → rowOf f code .busy ≡ true → rowOf f code .turn ≡ Keep
@@ -51,11 +63,6 @@ busy-stays d array sent pulses w response h =
     (λ a t. let k = keeps (figuresOf (d .part)) (getD sent 0 0) (t .busy h) in (rw k, rw k (map-same array)))
 
 -- ---- the line
-
-awake : (m : Mode) → isBusy m ≡ true → isDeep m ≡ false
-awake Standby h = refl
-awake (Busy left) h = refl
-awake Deep h = absurd (false≢true h)
 
 -- RDSR alone is heard
 unheard : (d : Device) → isBusy (d .mode) ≡ true → (f : Figures) (code : ℕ) → eqb code 0x05 ≡ false → heard d (rowOf f code) ≡ false
@@ -79,3 +86,16 @@ busy-line d array (x ∷ xs) h = go (eqb x 0x05) refl
     go : (b : Bool) → eqb x 0x05 ≡ b → driven d array (x ∷ xs) ≡ cond b (drives (statusByte d)) silent
     go true e = rw (eqb-true x 0x05 e, h, awake (d .mode) h, some)
     go false e = rw (unheard d h (figuresOf (d .part)) x e) quiet
+
+-- whether something is driven does not depend on the latch, and so neither do first and count
+driving-unread : (d : Device) (l : Bool) (array sent : List ℕ) → isBusy (d .mode) ≡ true → (i : ℕ) → drivingAt (latched d l) array sent i ≡ drivingAt d array sent i
+unfolding drivingAt latched
+driving-unread d l array sent h i = rw (busy-line (latched d l) array (take i sent) h, busy-line d array (take i sent) h) (go (eqb (getD (take i sent) 0 0) 0x05))
+  where
+    go : (b : Bool) → driving (cond b (drives (statusByte (latched d l))) silent) ≡ driving (cond b (drives (statusByte d)) silent)
+    go true = refl
+    go false = refl
+
+pub span-unread : (d : Device) (l : Bool) (array sent : List ℕ) → isBusy (d .mode) ≡ true → (firstOf (latched d l) array sent ≡ firstOf d array sent) × (countOf (latched d l) array sent ≡ countOf d array sent)
+unfolding firstOf countOf
+span-unread d l array sent h = (λ j. firstFrom (λ (i : ℕ). driving-unread d l array sent h i j) 0 sent, λ j. sumAt (λ (i x : ℕ). driving-unread d l array sent h i j) sent)

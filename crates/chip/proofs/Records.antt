@@ -32,7 +32,7 @@ KindLaw Page code = Unit {0}
 KindLaw Sector code = Unit {0}
 KindLaw All code = Unit {0}
 
--- what a row's change of the record needs of the row: a latch is not changed while busy, only WRSR writes settings, only a part that sleeps goes to deep power-down
+-- what a row's change of the record needs of the row: no instruction changes the latch while busy, only WRSR writes settings, only a part that sleeps goes to deep power-down
 abbrev pub TurnLaw : Turn → Figures → ℕ → Bool → Type 0
 TurnLaw Keep f code busy = Unit {0}
 TurnLaw Enable f code busy = busy ≡ false

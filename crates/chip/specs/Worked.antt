@@ -142,7 +142,7 @@ k8 = record { device = bench 1 false true; steps = answers (0xC7 ∷ []) 17 ∷ 
 abbrev pub k9 : Case
 k9 = record { device = bench 0 true true; steps = told false 0 (0x01 ∷ 0 ∷ []) 18 ∷ told true 0 (0x01 ∷ 0 ∷ []) 0 ∷ [] }
 
--- `01FF`: status 8F right after the write, 8C afterwards
+-- `01FF`: status 8F right after the write, 8C after waiting 2
 abbrev pub k10 : Case
 k10 = record { device = usual; steps = answers (0x01 ∷ 0xFF ∷ []) 0 ∷ status 0x8F ∷ waits 2 ∷ status 0x8C ∷ [] }
 
@@ -233,7 +233,7 @@ older-busy = record { device = record-of 5 0 false true (Busy 3); steps = answer
 abbrev pub older-deep : Case
 older-deep = record { device = record-of 5 0 false true Deep; steps = answers (0x9F ∷ 0 ∷ []) 14 ∷ answers (0x05 ∷ 0 ∷ []) 13 ∷ answers (0xAB ∷ []) 0 ∷ status 0x02 ∷ [] }
 
--- durations of 1: status 01 at once, and 00 after waiting 1; what may be done in the cycle stays the same
+-- durations of 1: status 01 at once, `06` gives 12 then, and 00 after waiting 1 or power-up
 abbrev pub one-tick : Case
 one-tick = record {
   device = quick;

@@ -60,7 +60,7 @@ fn worked_last() {
     bench(b"K8", b"= 0 1 1;x 1 0 C7");
     // SRWD 1: 0100 gives 18 with W low, 0 with W high
     bench(b"K9", b"= 1 0 1;x 0 0 0100;s;x 1 0 0100;s");
-    // 01FF: status 8F right after the write, 8C afterwards
+    // 01FF: status 8F right after the write, 8C after waiting 2
     bench(b"K10", b"x 1 0 01FF;x 1 0 0500;w 2;x 1 0 0500");
     // 02000000 gives 15, so does D800000000
     bench(b"K11", b"x 1 0 02000000;x 1 0 D800000000");

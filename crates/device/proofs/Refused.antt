@@ -1,4 +1,4 @@
--- Byte strings that unpack refuses, and accepted ones beside them, computed: each differs from the first in one to three bytes.
+-- Byte strings that unpack refuses, and accepted ones beside them, computed: the first is accepted, the last is empty, and the others differ from the first in one to three bytes.
 -- Assumes nothing.
 use mathlib.Core.Path.{_≡_, refl}
 use mathlib.Core.List.{List, [], _∷_}

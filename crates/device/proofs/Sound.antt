@@ -1,11 +1,11 @@
--- What a sound record has, which changes keep a record sound, and when the latch falls.
+-- What a sound record has, and which changes keep a record sound.
 -- Assumes nothing.
-use mathlib.Core.Path.{_≡_, refl, sym, subst}
+use mathlib.Core.Path.{_≡_, refl, sym}
 use mathlib.Core.Bool.{Bool, true, false, cond, _&&_, false≢true}
 use Prim.Native.Nat.{ℕ, _≤_, _<_, _-_}
 use native.Mathlib.Omega.{arith}
 use lib.Dec.{leb, ltb}
-use borrow.Author.Tests.{leb-true, ltb-true, le-leb, lt-ltb, le-ltb}
+use borrow.Author.Tests.{leb-true, ltb-true, le-leb}
 use Rattle.slices.proofs.Choices.{both}
 use Rattle.parts.specs.Parts.{knownPart, figuresOf}
 use Rattle.device.specs.declared.Mode.{Mode}
@@ -133,42 +133,3 @@ delivered-sound p a b c w k ha hb hc hw = sound-by (delivered p a b c w) (record
 pub zero-unsound : sound zeroRecord ≡ false
 unfolding sound zeroRecord delivered figuresOf
 zero-unsound = refl
-
--- ---- when the latch falls
-
-same-true : (a b : Bool) → bothSame a b ≡ true → a ≡ b
-same-true true b h = sym h
-same-true false true h = absurd (false≢true h)
-same-true false false h = refl
-
--- a sound busy record has its latch set exactly if more than one tick is left
-pub busy-latch : (d : Device) (left : ℕ) → sound d ≡ true → d .mode ≡ Busy left → d .latch ≡ ltb 1 left
-unfolding latchAt
-busy-latch d left h e =
-    let fits = subst (λ (m : Mode). modeSound m (d .latch) (figuresOf (d .part) .sleeps) ≡ true) e (sound-has d h .mode-fits) in
-    same-true (d .latch) (ltb 1 left) (both (rangedOf left) (bothSame (d .latch) (ltb 1 left)) fits .1)
-
--- a wait shorter than the cycle leaves it busy, with the latch set exactly if more than one tick is then left
-pub within : (d : Device) (t w : ℕ) → w < t → waited (running d t) w ≡ moded d (ltb 1 (t - w)) (Busy (t - w))
-unfolding waited running moded latchAt
-within d t w h = rw (lt-ltb w t h)
-
--- a wait as long as the cycle ends it, whenever the latch falls
-pub over : (d : Device) (t w : ℕ) → t ≤ w → waited (running d t) w ≡ moded d false Standby
-unfolding waited running moded
-over d t w h = rw (le-ltb w t h)
-
--- where a wait leads in a cycle does not depend on the latch before it
-pub wait-unread : (d : Device) (l : Bool) (t : ℕ) → isBusy (d .mode) ≡ true → waited (latched d l) t ≡ waited d t
-unfolding waited latched running moded
-wait-unread d l t h = go (d .mode) h
-  where
-    go : (m : Mode) → isBusy m ≡ true → waitedIn m (latched d l) t ≡ waitedIn m d t
-    go Standby e = absurd (false≢true e)
-    go (Busy left) e = refl
-    go Deep e = absurd (false≢true e)
-
--- nor where a power-up leads, in a cycle or not
-pub power-unread : (d : Device) (l : Bool) → poweredUp (latched d l) ≡ poweredUp d
-unfolding poweredUp latched moded
-power-unread d l = refl

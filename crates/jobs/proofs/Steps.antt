@@ -17,7 +17,8 @@ use Rattle.parts.specs.Parts.{figuresOf}
 use Rattle.device.specs.declared.Mode.the-variants.{Standby}
 use Rattle.device.specs.declared.Device.{Device}
 use Rattle.device.specs.Device.{sound, rangedOf, moded, latched, running, waited, soundAnswer, waitCall}
-use Rattle.device.proofs.Sound.{sound-has, standby-sound, running-sound, over}
+use Rattle.device.proofs.Sound.{sound-has, standby-sound, running-sound}
+use Rattle.device.proofs.Waiting.{cycle-ends}
 use Rattle.chip.specs.Table.{rowOf, addressOf, rowIn}
 use Rattle.chip.specs.Answers.{hostNumber, chipNumber, asNeeded, inProtected, decided, verdictOf}
 use Rattle.chip.specs.Change.{changed, asItWas, turned}
@@ -143,7 +144,7 @@ busy-waits : (d : Device) → sound d ≡ true → (t : ℕ) → rangedOf t ≡ 
 unfolding waitCall soundAnswer moded
 busy-waits d s t r h =
     let k = running-sound (resting d true) t (rest-sound d true s) r in
-    (rw k, (false, rw k (over (resting d true) t (longestCycle d) h)))
+    (rw k, (false, rw k (cycle-ends (resting d true) t (longestCycle d) h)))
 
 -- ---- the four calls of a job, from standby
 

@@ -150,8 +150,8 @@ programmed =
     0x03 0x5A
 
 -- a bulk erase of one tick: the latch is reset at once, and no ticks pass
-abbrev pub last-tick : Case
-last-tick = runs quick (bits (row 1 1 0 0 0 1 1 1) dark ∷ at 25 2 ∷ reads (row 0 0 0 0 0 0 0 1)) 0x01
+abbrev pub one-tick : Case
+one-tick = runs quick (bits (row 1 1 0 0 0 1 1 1) dark ∷ at 25 2 ∷ reads (row 0 0 0 0 0 0 0 1)) 0x01
 
 -- a read of the array from 000000 on
 abbrev pub array-read : Case
@@ -283,5 +283,5 @@ no-samples = record { device = plain; bytes = 4096; run = []; room = 0; answer =
 -- all of them
 unfoldable pub cases : List Case
 cases =
-    status-read ∷ enabled ∷ in-order ∷ programmed ∷ last-tick ∷ array-read ∷ further-read ∷ further-pulse ∷ unfinished ∷ first-high ∷ w-high ∷ w-low ∷ held ∷ held-later ∷ fall-undone ∷ rise-undone ∷ held-within ∷ thrown-away
+    status-read ∷ enabled ∷ in-order ∷ programmed ∷ one-tick ∷ array-read ∷ further-read ∷ further-pulse ∷ unfinished ∷ first-high ∷ w-high ∷ w-low ∷ held ∷ held-later ∷ fall-undone ∷ rise-undone ∷ held-within ∷ thrown-away
     ∷ still-held ∷ not-yet-held ∷ falls-held ∷ falls-held-later ∷ falls-held-at-once ∷ falls-at-once ∷ rises-at-once ∷ rises-with-clock ∷ clock-with-hold ∷ clock-before-hold ∷ clock-before-rise ∷ no-samples ∷ refusals

@@ -33,9 +33,9 @@ pub const CHIP: &[(&str, &dyn Model)] = named![
     BitFourKept,
     DeepResetsLatch,
     LastTickMissed,
-    // the latch falls with the busy bit
+    // the latch falls with the busy bit, soundness apart
     LatchInCycle(true),
-    // the latch falls as the cycle starts
+    // the latch falls as the cycle starts, soundness apart
     LatchInCycle(false),
     BusyLatchUnchecked,
     LatchKeptAfterCycle,
@@ -274,14 +274,14 @@ impl Model for LatchInCycle {
     }
 }
 
-/// The latch of a busy record is not looked at.
+/// The latch of a busy record is put right, not refused.
 struct BusyLatchUnchecked;
 
 impl Model for BusyLatchUnchecked {
     fn unpack(&self, record: &[u8]) -> Result<Record, u8> {
-        let mut bytes = record.to_vec();
         let unpacked = Paper.unpack(record);
         if unpacked == Err(6) {
+            let mut bytes = record.to_vec();
             bytes[3] ^= 1;
             return Paper.unpack(&bytes);
         }

@@ -265,7 +265,7 @@ impl Generator {
                 let random = self.duration();
                 let left = self.rng.pick(&[1, 2, random]);
                 let right = self.rng.one_in(4);
-                let latch = latch_at(left) == right;
+                let latch = if right { latch_at(left) } else { !latch_at(left) };
                 bytes = Record { mode: Mode::Busy(left), latch, ..*now }.pack();
             }
             _ => bytes = Record { mode: Mode::Deep, ..*now }.pack(),

@@ -1,5 +1,5 @@
-//! The model on the worked cases K1 to K15, on cycles of one tick and on the older M25P10-A; and the bench
-//! model on the worked example.
+//! The model on the worked cases K1 to K15, on cycles of one tick, on the latch of a sound busy record and on
+//! the older M25P10-A; and the bench model on the worked example.
 
 use rig::bench_model::{self, Line};
 use rig::model::{Mode, Model, Outcome, Packed, Paper, Record, Transaction};

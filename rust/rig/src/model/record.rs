@@ -84,7 +84,7 @@ impl Record {
             }
     }
 
-    /// Into a cycle with so many ticks left.
+    /// Busy with so many ticks left, and with their latch.
     pub fn cycle(&mut self, left: u32) {
         self.mode = Mode::Busy(left);
         self.latch = latch_at(left);
