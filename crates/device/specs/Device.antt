@@ -9,7 +9,7 @@ use Rattle.device.specs.declared.Mode.the-variants.{Standby, Busy, Deep}
 use Rattle.device.specs.declared.Device.{Device}
 use Rattle.device.specs.declared.Checked.{Checked}
 
--- the latch while t ticks of a cycle are left: it falls one tick before the cycle ends
+-- the latch of a cycle with t ticks left: set exactly if more than one tick is left
 unfoldable pub latchAt : ℕ → Bool
 latchAt t = ltb 1 t
 

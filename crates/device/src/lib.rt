@@ -34,7 +34,7 @@ pub struct Checked {
     pub device: Device,
 }
 
-// The latch with `t` ticks left.
+// The latch of a cycle with `t` ticks left.
 fn latch_at(t: u32) -> bool
     ensures { λ r. ⌜ r ≡ latchAt t ⌝ }
 {
