@@ -1,9 +1,11 @@
 // The memory of a part: the page latch, programming, erasing, reading. Every function is total: a byte that is not there is not changed.
 ghost use mathlib.Core.Path.{_≡_};
 ghost use Prim.Native.Nat.{_≤_};
-ghost use lib.ListN.{length};
-ghost use Rattle.slices.specs.Changed.{mapAt, put};
+ghost use lib.ListN.{length, getD};
+ghost use lib.Count.{ones};
+ghost use Rattle.slices.specs.Changed.{mapAt, put, sumAt};
 ghost use Rattle.memory.specs.Memory.{blank, filled, anded, programmed, erased, rolled};
+ghost use Rattle.memory.specs.Missing.{unmet, pageOf, missing};
 
 // A latch after the data: byte k in slot (address + k) mod 256, a later byte in place of an earlier.
 fn fill_slots(latch: [u8; 256], bytes: &[u8], address: u32) -> [u8; 256]
@@ -47,6 +49,38 @@ pub fn program_page(array: &mut [u8], address: usize, slots: [u8; 256])
     let n = slices::least(256, room);
     let to = from + n;
     and_page(&mut array[from..to], slots);
+}
+
+// How many bits of a byte are 1.
+fn ones_in(b: u8) -> u32
+    ensures { λ r. ⌜ (r ≡ ones b) × (r ≤ 8) ⌝ }
+{
+    u8::count_ones(b)
+}
+
+// How many bits are 1 in a slot and 0 in its byte, over a page or what there is of it.
+fn unmet_in(page: &[u8], slots: [u8; 256]) -> u32
+    requires { ⌜ length (now page) ≤ 256 ⌝ }
+    ensures { λ r. ⌜ r ≡ sumAt (λ k x. unmet (getD slots k 0) x) (now (page .entry)) ⌝ }
+{
+    let mut total = 0;
+    let mut i = 0;
+    while i < page.len() {
+        total += ones_in(slots[i] & !page[i]);
+        i += 1;
+    }
+    total
+}
+
+// How many bits the data wants 1 that are 0 in the page of an address. The latch is all 00 at first here: where no data went, nothing is wanted.
+pub fn missing(array: &[u8], address: u32, bytes: &[u8]) -> u32
+    ensures { λ r. ⌜ r ≡ missing address (now (bytes .entry)) (pageOf address (now (array .entry))) ⌝ }
+{
+    let slots = fill_slots([0; 256], bytes, address);
+    let place = address as usize;
+    let from = slices::least(place / 256 * 256, array.len());
+    let page = slices::front(&array[from..], 256);
+    unmet_in(page, slots)
 }
 
 // The whole array becomes FF.
