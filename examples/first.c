@@ -1,4 +1,5 @@
-/* first.c - a first program: deliver the bench part, identify it, program it, wait, and read it back.
+/* first.c - a first program: deliver the bench part, identify it, program it, wait, and read it back; then
+ * program it once more without an erase, and hear that one was missing.
  *
  *   rt staticlib m25p
  *   cc -O2 -Iinclude examples/first.c target/staticlib/libm25p.a -o target/first && target/first
@@ -24,7 +25,8 @@ static uint64_t executed(const char *name, uint64_t answer)
     return answer;
 }
 
-/* One transaction with W high and no further pulses; prints the bytes that the chip drove. */
+/* One transaction with W high and no further pulses; prints the bytes that the chip drove, and how many bits
+ * a program wanted 1 that were 0. */
 static void say(const char *name, const uint8_t *sent, size_t n)
 {
     uint64_t answer = executed(name, m25p_transact(record, sizeof record, array, sizeof array,
@@ -33,7 +35,10 @@ static void say(const char *name, const uint8_t *sent, size_t n)
     printf("%-16s", name);
     for (uint32_t i = 0; i < count; i++)
         printf(" %02X", response[first + i]);
-    printf("%s\n", count == 0 ? " done" : "");
+    printf("%s", count == 0 ? " done" : "");
+    if (m25p_missing(answer) > 0)
+        printf(", %u bits missing: erase first", m25p_missing(answer));
+    printf("\n");
 }
 
 int main(void)
@@ -43,6 +48,7 @@ int main(void)
     const uint8_t program[] = {0x02, 0x00, 0x01, 0x00, 'f', 'l', 'a', 's', 'h'};
     const uint8_t status[] = {0x05, 0};
     const uint8_t read[] = {0x03, 0x00, 0x01, 0x00, 0, 0, 0, 0, 0, 0};
+    const uint8_t rewrite[] = {0x02, 0x00, 0x01, 0x00, 'b', 'o', 'a', 'r', 'd'};
 
     executed("deliver", m25p_deliver(record, sizeof record, M25P_BENCH, array, sizeof array,
                                      3, 5, 9, 2));
@@ -53,5 +59,7 @@ int main(void)
     executed("wait", m25p_wait(record, sizeof record, 3));
     say("status", status, sizeof status);
     say("read", read, sizeof read);
+    say("write enable", write_enable, sizeof write_enable);
+    say("rewrite", rewrite, sizeof rewrite);
     return 0;
 }

@@ -1,4 +1,4 @@
--- A chip in a cycle, its record sound or not: none of the chip's numbers depends on its latch, no transaction changes record or array, and nothing but the status byte is driven.
+-- A chip in a cycle, its record sound or not: none of the chip's numbers depends on its latch, no transaction changes record or array or has bits missing, and nothing but the status byte is driven.
 -- Assumes nothing.
 use mathlib.Core.Path.{_≡_, refl, sym, _∙_}
 use mathlib.Core.Bool.{Bool, true, false, cond, not, false≢true}
@@ -21,7 +21,7 @@ use Rattle.chip.specs.declared.table.Turn.the-variants.{Keep}
 use Rattle.chip.specs.Table.{rowOf}
 use Rattle.chip.specs.Answers.{asNeeded, chipNumber}
 use Rattle.chip.specs.Line.{Driven, silent, drives, byRow, heard, heardRow, driven, driving, drivingAt, firstFrom, firstOf, countOf}
-use Rattle.chip.specs.Change.{changed, turned}
+use Rattle.chip.specs.Change.{changed, missingOf, turned}
 use Rattle.chip.specs.Outcome.{Outcome, outcomeOf, transacted}
 use Rattle.chip.proofs.Rows.{rows-ind}
 use Rattle.chip.proofs.Rules.{outcome-ind}
@@ -54,13 +54,13 @@ keeps f =
     no : {A : Type 0} → false ≡ true → A
     no b = absurd (false≢true b)
 
--- a transaction in a cycle leaves the record and every byte of the array
+-- a transaction in a cycle leaves the record and every byte of the array, and no bits are missing
 pub busy-stays : (d : Device) (array sent : List ℕ) (pulses : ℕ) (w : Bool) (response : List ℕ) → isBusy (d .mode) ≡ true
-    → (transacted d array sent pulses w response .device ≡ d) × (transacted d array sent pulses w response .array ≡ array)
-unfolding outcomeOf turned changed
+    → (transacted d array sent pulses w response .device ≡ d) × (transacted d array sent pulses w response .array ≡ array) × (transacted d array sent pulses w response .answer .missing ≡ 0)
+unfolding outcomeOf turned changed missingOf
 busy-stays d array sent pulses w response h =
-    outcome-ind d array sent pulses w response (λ (o : Outcome). (o .device ≡ d) × (o .array ≡ array)) (λ a. (refl, refl)) (λ a b. (refl, refl))
-    (λ a t. let k = keeps (figuresOf (d .part)) (getD sent 0 0) (t .busy h) in (rw k, rw k (map-same array)))
+    outcome-ind d array sent pulses w response (λ (o : Outcome). (o .device ≡ d) × (o .array ≡ array) × (o .answer .missing ≡ 0)) (λ a. (refl, refl, refl)) (λ a b. (refl, refl, refl))
+    (λ a t. let k = keeps (figuresOf (d .part)) (getD sent 0 0) (t .busy h) in (rw k, rw k (map-same array), rw k))
 
 -- ---- the line
 

@@ -3,7 +3,8 @@
 use mathlib.Core.Path.{_≡_, refl, sym, ap, _∙_}
 use mathlib.Core.Bool.{Bool, true}
 use mathlib.Core.List.{List, [], _∷_, _++_}
-use Prim.Native.Nat.{ℕ, suc, _≤_, _<_}
+use Prim.Native.Nat.{ℕ, suc, _+_, _≤_, _<_}
+use native.Mathlib.Nat.{zero-add, add-assoc}
 use native.Mathlib.Omega.{arith}
 use borrow.Author.Tests.{eq-eqb, le-ltb, lt-ltb}
 use lib.ListN.{length, replicate, length-replicate}
@@ -20,7 +21,7 @@ use Rattle.chip.specs.Table.{addressOf, rowIn}
 use Rattle.chip.specs.Answers.{hostNumber, chipNumber, decided, verdictOf}
 use Rattle.chip.specs.Line.{heardRow, lined, firstOf, countOf}
 use Rattle.chip.specs.Outcome.{outcomeOf, transacted}
-use Rattle.chip.specs.Events.{Chip, Good, Event, sends, waits, starts, Reply, sent, after, reply, run, story}
+use Rattle.chip.specs.Events.{Chip, Good, Event, sends, waits, starts, Reply, sent, after, reply, run, missed, story}
 use Rattle.chip.proofs.Lines.{span-is}
 use Rattle.chip.proofs.Verdicts.{Decision, refuses, ignores, executes, verdict-is}
 use Rattle.chip.proofs.Rules.{array-length, response-length, stays-sound, make-stays}
@@ -39,6 +40,10 @@ story-append (e ∷ a) b c = ap (λ (t : List Reply). reply e c ∷ t) (story-ap
 pub story-length : (es : List Event) (c : Chip) → length (story es c) ≡ length es
 story-length [] c = refl
 story-length (e ∷ es) c = ap suc (story-length es (after e c))
+
+pub missed-append : (a b : List Event) (c : Chip) → missed (a ++ b) c ≡ missed a c + missed b (run a c)
+missed-append [] b c = sym (zero-add (missed b c))
+missed-append (e ∷ a) b c = ap (λ (n : ℕ). reply e c .answer .missing + n) (missed-append a b (after e c)) ∙ sym (add-assoc (reply e c .answer .missing) (missed a (after e c)) (missed b (run a (after e c))))
 
 -- ---- what every event keeps, every list keeps
 
@@ -150,6 +155,33 @@ pub no-refusal : (d : Device) (len n p r : ℕ) → sound d ≡ true → len ≡
 unfolding hostNumber
 no-refusal d len n p r s l m q h = rw (s, eq-eqb len (figuresOf (d .part) .bytes) l, le-ltb 65536 n m, le-ltb 7 p q, le-ltb r n h)
 
+same-verdict : (d : Device) (array : ℕ) (bytes : List ℕ) (p : ℕ) (w : Bool) (r s : ℕ) → length bytes ≤ r → length bytes ≤ s → verdictOf d array bytes p w r ≡ verdictOf d array bytes p w s
+unfolding verdictOf hostNumber
+same-verdict d array bytes p w r s room other = rw (le-ltb r (length bytes) room, le-ltb s (length bytes) other)
+
+-- two responses with room for the line: answer, record and array are the same
+pub any-response : (d : Device) (array bytes : List ℕ) (p : ℕ) (w : Bool) (r s : List ℕ) → length bytes ≤ length r → length bytes ≤ length s
+    → (transacted d array bytes p w r .answer ≡ transacted d array bytes p w s .answer) × (transacted d array bytes p w r .device ≡ transacted d array bytes p w s .device)
+    × (transacted d array bytes p w r .array ≡ transacted d array bytes p w s .array)
+unfolding transacted outcomeOf
+any-response d array bytes p w r s room other = rw (same-verdict d (length array) bytes p w (length r) (length s) room other) (same (verdictOf d (length array) bytes p w (length s)))
+  where
+    same : (v : Verdict) → (outcomeOf v d array bytes r .answer ≡ outcomeOf v d array bytes s .answer) × (outcomeOf v d array bytes r .device ≡ outcomeOf v d array bytes s .device)
+        × (outcomeOf v d array bytes r .array ≡ outcomeOf v d array bytes s .array)
+    same (Refused k) = (refl, refl, refl)
+    same (Ignored k) = (refl, refl, refl)
+    same Executed = (refl, refl, refl)
+
+-- with room, they are those of the event
+pub sent-room : (c : Chip) (bytes : List ℕ) (p : ℕ) (w : Bool) (r : List ℕ) → length bytes ≤ length r
+    → (transacted (c .device) (c .array) bytes p w r .answer ≡ sent c bytes p w .answer) × (transacted (c .device) (c .array) bytes p w r .device ≡ sent c bytes p w .device)
+    × (transacted (c .device) (c .array) bytes p w r .array ≡ sent c bytes p w .array)
+unfolding sent
+sent-room c bytes p w r room =
+    let zeros : List ℕ = replicate (length bytes) 0 in
+    let l : length zeros ≡ length bytes = length-replicate {A = ℕ} (length bytes) 0 in
+    any-response (c .device) (c .array) bytes p w r zeros room (omega arith)
+
 module _ (c : Chip) (g : Good c) (bytes : List ℕ) (p : ℕ) (w : Bool) (few : length bytes ≤ 65536) (pulses : p ≤ 7) where
   abbrev zeros : List ℕ
   zeros = replicate (length bytes) 0
@@ -159,21 +191,6 @@ module _ (c : Chip) (g : Good c) (bytes : List ℕ) (p : ℕ) (w : Bool) (few : 
 
   fine : (r : ℕ) → length bytes ≤ r → hostNumber (c .device) (length (c .array)) (length bytes) p r ≡ 0
   fine r room = no-refusal (c .device) (length (c .array)) (length bytes) p r (g .sound) (g .whole) few pulses room
-
-  -- a response with room: number, first, count, record and array are those of the event
-  pub any-response : (r : List ℕ) → length bytes ≤ length r
-      → Same (transacted (c .device) (c .array) bytes p w r .answer) (sent c bytes p w .answer) × (transacted (c .device) (c .array) bytes p w r .device ≡ sent c bytes p w .device)
-      × (transacted (c .device) (c .array) bytes p w r .array ≡ sent c bytes p w .array)
-  unfolding sent transacted verdictOf outcomeOf
-  any-response r room =
-      let own : length bytes ≤ length zeros = omega (arith, long) in
-      let v : Verdict = decided 0 (chipNumber (c .device) (rowIn (c .device) bytes) (length bytes) p w (addressOf (figuresOf (c .device .part)) bytes)) in
-      rw (fine (length r) room, fine (length zeros) own) (same-answer (c .device) (c .array) (c .array) bytes r zeros v, same-device (c .device) (c .array) (c .array) bytes r zeros v, same-array v)
-    where
-      same-array : (v : Verdict) → outcomeOf v (c .device) (c .array) bytes r .array ≡ outcomeOf v (c .device) (c .array) bytes zeros .array
-      same-array (Refused k) = refl
-      same-array (Ignored k) = refl
-      same-array Executed = refl
 
   -- a response of the transaction's own length, whatever stood in it: all of the outcome is that of the event
   pub sent-is : (r : List ℕ) → length r ≡ length bytes → transacted (c .device) (c .array) bytes p w r ≡ sent c bytes p w

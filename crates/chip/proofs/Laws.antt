@@ -114,12 +114,12 @@ by-verdict d array sent pulses w response v e m = rw e m
 -- ---- a transaction foreseen
 
 module _ (d : Device) (array : ℕ) (sent : List ℕ) (pulses : ℕ) (w : Bool) (response : ℕ) where
-  pub foreseen-by : (v : Verdict) → verdictOf d array sent pulses w response ≡ v → {a : Answer} {next : Device}
+  pub foreseen-by : (v : Verdict) → verdictOf d array sent pulses w response ≡ v → {a : Answer} {next : Device} → a .missing ≡ 0
       → ((xs r : List ℕ) → let o = outcomeOf v d xs sent r in (a .number ≡ o .answer .number) × (a .first ≡ o .answer .first) × (a .count ≡ o .answer .count) × (next ≡ o .device))
       → Foreseen d array sent pulses w response a next
   unfolding transacted
-  foreseen-by v e p =
-      record { number = λ xs r l m. rw (l, m, e) (p xs r .0); first = λ xs r l m. rw (l, m, e) (p xs r .1); count = λ xs r l m. rw (l, m, e) (p xs r .2); device = λ xs r l m. rw (l, m, e) (p xs r .3) }
+  foreseen-by v e m p =
+      record { missing = m; number = λ xs r l m. rw (l, m, e) (p xs r .0); first = λ xs r l m. rw (l, m, e) (p xs r .1); count = λ xs r l k. rw (l, k, e) (p xs r .2); device = λ xs r l m. rw (l, m, e) (p xs r .3) }
 
   -- its promise admits one outcome only
   pub one-foresight : {a b : Answer} {next other : Device} → Foreseen d array sent pulses w response a next → Foreseen d array sent pulses w response b other → (a ≡ b) × (next ≡ other)
@@ -128,11 +128,11 @@ module _ (d : Device) (array : ℕ) (sent : List ℕ) (pulses : ℕ) (w : Bool) 
       let r : List ℕ = replicate response 0 in
       let l : length xs ≡ array = length-replicate array 0 in
       let m : length r ≡ response = length-replicate response 0 in
-      (same (p .number xs r l m ∙ sym (q .number xs r l m)) (p .first xs r l m ∙ sym (q .first xs r l m)) (p .count xs r l m ∙ sym (q .count xs r l m)), p .device xs r l m ∙ sym (q .device xs r l m))
+      (same (p .number xs r l m ∙ sym (q .number xs r l m)) (p .first xs r l m ∙ sym (q .first xs r l m)) (p .count xs r l m ∙ sym (q .count xs r l m)) (p .missing ∙ sym (q .missing)), p .device xs r l m ∙ sym (q .device xs r l m))
     where
-      same : a .number ≡ b .number → a .first ≡ b .first → a .count ≡ b .count → a ≡ b
-      same e f g =
-          let x : _≡_ {A = Answer} (record { number = a .number; first = a .first; count = a .count }) (record { number = b .number; first = b .first; count = b .count }) = rw (e, f, g) in
+      same : a .number ≡ b .number → a .first ≡ b .first → a .count ≡ b .count → a .missing ≡ b .missing → a ≡ b
+      same e f g h =
+          let x : _≡_ {A = Answer} (record { number = a .number; first = a .first; count = a .count; missing = a .missing }) (record { number = b .number; first = b .first; count = b .count; missing = b .missing }) = rw (e, f, g, h) in
           x
 
 -- where something is driven, as the code finds it, whatever the array

@@ -8,5 +8,6 @@ pub mod Rules
 pub mod Events
 pub mod Reading
 pub mod Busy
+pub mod Missed
 pub mod Older
 pub mod Worked

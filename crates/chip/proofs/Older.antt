@@ -31,7 +31,7 @@ use Rattle.chip.specs.declared.answers.Verdict.the-variants.{Refused, Ig
 use Rattle.chip.specs.Table.{onlyIf, onStart, rowOf, rowIn, addressOf}
 use Rattle.chip.specs.Answers.{deliveryAnswer, hostNumber, inProtected, guardedIn, guarded, chipNumber, decided, verdictOf}
 use Rattle.chip.specs.Line.{silent, kth, byRow, heard, heardRow, driven, driving, onLine, lined, drivingAt, firstFrom, firstOf, countOf}
-use Rattle.chip.specs.Change.{cycleOf, changed, asItWas, bpIn, settledBy, turned}
+use Rattle.chip.specs.Change.{cycleOf, changed, missingOf, asItWas, bpIn, settledBy, turned}
 use Rattle.chip.specs.Outcome.{Outcome, bare, outcomeOf, transacted, Delivered}
 use Rattle.chip.specs.Events.{Chip, Event, sends, waits, starts, Reply, sent, after, reply, run, story}
 use Rattle.chip.specs.Older.{asPart, outcomeAs, checkedAs, deliveredAs, chipAs, notRdid, without9F, allWithout9F, DoesAs}
@@ -178,7 +178,13 @@ outcome-same Executed d array sent response h =
     let change = ap (λ (r : Row). changed (r .turn) (figuresOf 5) (addressOf f sent) sent) row ∙ changed-stays (rowIn (asPart 1 d) sent .turn) f (addressOf f sent) sent in
     λ j.
     record {
-      answer = record { number = 0; first = firstFrom (driving-same d array sent h j) 0 sent; count = sumAt (λ i x. driving-same d array sent h j i) sent };
+      answer =
+          record {
+            number = 0;
+            first = firstFrom (driving-same d array sent h j) 0 sent;
+            count = sumAt (λ i x. driving-same d array sent h j i) sent;
+            missing = missingOf (row j .turn) (addressOf f sent) sent array;
+          };
       device = next j;
       array = mapAt (change j) array;
       response = mapAt (lined-same d array sent h j) response;

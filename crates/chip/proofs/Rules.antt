@@ -8,11 +8,13 @@ use native.Mathlib.Omega.{arith}
 use borrow.Author.Tests.{le-ltb, ltb-true, ltb-false}
 use lib.Dec.{eqb, leb, ltb, lit<, lit≤}
 use lib.Bits.{and-le-l}
-use lib.ListN.{length, getD, take, List·getD-eq-default}
+use lib.ListN.{length, getD, take, drop, List·getD-eq-default}
 use Rattle.slices.specs.Changed.{mapAt, window, put}
 use Rattle.slices.proofs.Maps.{length-map, getD-map, getD-any}
 use Rattle.slices.proofs.Windows.{window-in, window-above}
 use Rattle.memory.specs.Memory.{programmed, erased}
+use Rattle.memory.specs.Missing.{mostMissing}
+use Rattle.memory.proofs.Unmet.{missing-few}
 use Rattle.parts.specs.declared.Figures.{Figures}
 use Rattle.parts.specs.Parts.{figuresOf}
 use Rattle.parts.proofs.Laws.{figures-ind}
@@ -32,9 +34,9 @@ use Rattle.chip.specs.declared.answers.Verdict.the-variants.{Refused, Ig
 use Rattle.chip.specs.Table.{addressOf, rowIn}
 use Rattle.chip.specs.Answers.{hostNumber, writesSettings, guarded, asNeeded, chipNumber}
 use Rattle.chip.specs.Line.{Driven, onLine, kth, identification, byRow, heardRow, driven, lined}
-use Rattle.chip.specs.Change.{cycleOf, changed, asItWas, turned}
+use Rattle.chip.specs.Change.{cycleOf, changed, missingIn, missingOf, asItWas, turned}
 use Rattle.chip.proofs.Rows.{start-ind}
-use Rattle.chip.specs.Outcome.{Outcome, outcomeOf, transacted}
+use Rattle.chip.specs.Outcome.{Outcome, bare, outcomeOf, transacted}
 use Rattle.chip.proofs.Verdicts.{Host, Taken, Decision, refuses, ignores, executes, verdict-is, not-refused, not-ignored}
 use Rattle.slices.proofs.Choices.{cond-ind}
 use Rattle.chip.proofs.Lines.{first-soon}
@@ -80,11 +82,22 @@ chip-number d r n pulses w at =
     (cond-ind OfChip (guarded (r .turn) (figuresOf (d .part)) d at) (refl, λ h. lit≤ tt, lit≤ tt)
     (cond-ind OfChip (writesSettings (r .turn) && d .srwd && not w) (refl, λ h. lit≤ tt, lit≤ tt) (refl, λ h. absurd (h refl), lit≤ tt))))))))
 
--- what an answer's numbers are at most: the number 18, the first driven position 5, the count 65,536
+-- what an answer's numbers are at most: the number 18, the first driven position 5, the count 65,536, the bits missing 2,048
 pub record Few (a : Answer) : Type 0 where
   pub number : a .number ≤ 18
   pub first : a .first ≤ 5
   pub count : a .count ≤ 65536
+  pub missing : a .missing ≤ mostMissing
+
+missing-in-few : (k : Kind) (at : ℕ) (sent array : List ℕ) → missingIn k at sent array ≤ mostMissing
+missing-in-few Settings at sent array = lit≤ tt
+missing-in-few Page at sent array = missing-few at (drop 4 sent) array
+missing-in-few Sector at sent array = lit≤ tt
+missing-in-few All at sent array = lit≤ tt
+
+missing-of-few : (t : Turn) (at : ℕ) (sent array : List ℕ) → missingOf t at sent array ≤ mostMissing
+unfolding missingOf
+missing-of-few t at sent array = start-ind (λ (n : ℕ). n ≤ mostMissing) t (λ k. missingIn k at sent array) 0 (λ k. missing-in-few k at sent array) (lit≤ tt)
 
 -- ---- bytes
 
@@ -204,16 +217,16 @@ module _ (d : Device) (array sent : List ℕ) (pulses : ℕ) (w : Bool) (respons
   unfolding outcomeOf
   answer-few =
       outcome-ind (λ (o : Outcome). Few (o .answer))
-      (λ a. record { number = omega (arith, host-number d (length array) (length sent) pulses (length response) .1); first = lit≤ tt; count = lit≤ tt })
-      (λ h b. record { number = chip-number d (rowIn d sent) (length sent) pulses w (addressOf (figuresOf (d .part)) sent) .2; first = lit≤ tt; count = lit≤ tt })
-      (λ h t. record { number = lit≤ tt; first = first-soon d array sent; count = omega (arith, count-le d array sent, h .short) })
+      (λ a. record { number = omega (arith, host-number d (length array) (length sent) pulses (length response) .1); first = lit≤ tt; count = lit≤ tt; missing = lit≤ tt })
+      (λ h b. record { number = chip-number d (rowIn d sent) (length sent) pulses w (addressOf (figuresOf (d .part)) sent) .2; first = lit≤ tt; count = lit≤ tt; missing = lit≤ tt })
+      (λ h t. record { number = lit≤ tt; first = first-soon d array sent; count = omega (arith, count-le d array sent, h .short); missing = missing-of-few (rowIn d sent .turn) (addressOf (figuresOf (d .part)) sent) sent array })
 
-  -- with any other answer than 0 the record and the array stay, and nothing is driven
-  pub only-zero-changes : (out .answer .number ≡ 0 → ⊥) → (out .device ≡ d) × (out .array ≡ array) × (out .answer .first ≡ 0) × (out .answer .count ≡ 0)
+  -- with any other answer than 0 the record and the array stay, nothing is driven and no bits are missing
+  pub only-zero-changes : (out .answer .number ≡ 0 → ⊥) → (out .device ≡ d) × (out .array ≡ array) × (out .answer ≡ bare (out .answer .number))
   unfolding outcomeOf
   only-zero-changes =
-      outcome-ind (λ (o : Outcome). (o .answer .number ≡ 0 → ⊥) → (o .device ≡ d) × (o .array ≡ array) × (o .answer .first ≡ 0) × (o .answer .count ≡ 0))
-      (λ a n. (refl, refl, refl, refl)) (λ h b n. (refl, refl, refl, refl)) (λ h t n. absurd (n refl))
+      outcome-ind (λ (o : Outcome). (o .answer .number ≡ 0 → ⊥) → (o .device ≡ d) × (o .array ≡ array) × (o .answer ≡ bare (o .answer .number)))
+      (λ a n. (refl, refl, refl)) (λ h b n. (refl, refl, refl)) (λ h t n. absurd (n refl))
 
   -- with 1 to 8 the response stays too
   pub host-leaves : (out .answer .number ≡ 0 → ⊥) → out .answer .number ≤ 8 → out .response ≡ response

@@ -6,8 +6,10 @@ use mathlib.Core.List.{List, [], _∷_}
 use Prim.Native.Nat.{ℕ}
 use lib.Dec.{T, eqb}
 use lib.ListN.{length, getD, replicate, length-replicate}
+use lib.Count.{onesIn, ones}
 use Rattle.slices.specs.Changed.{mapAt, window, sumAt}
 use Rattle.memory.specs.Memory as memory-is
+use Rattle.memory.specs.Missing.{missingAt, missing, pageOf}
 use Rattle.parts.specs.Parts.{figuresOf}
 use Rattle.parts.specs.Protected.{protectedOf}
 use Rattle.device.specs.Device.{waitCall, powerUpCall, soundAnswer, waited, poweredUp, sound, statusByte, moded, latched, settled, running, latchAt}
@@ -15,7 +17,7 @@ use Rattle.chip.specs.Table.{rowOf, addressOf}
 use Rattle.chip.specs.Answers.{hostNumber, inProtected, asNeeded, chipNumber, decided, verdictOf}
 use Rattle.chip.specs.Line.{byRow, heard, heardRow, driven, lined, drivingAt, firstOf, countOf}
 use Rattle.device.specs.Cycles.{noSlots, touched}
-use Rattle.chip.specs.Change.{cycleOf, changed, bpIn, turned}
+use Rattle.chip.specs.Change.{cycleOf, changed, missingOf, bpIn, turned}
 use Rattle.chip.specs.Outcome.{outcomeOf, transacted}
 use Rattle.chip.specs.Worked.{Step, tells, holds, Case, gave, sees, fresh, all, cases, further}
 use Rattle.chip.specs.Events.{Chip, Event, sends, waits, starts, Reply, sent, after, reply}
@@ -69,7 +71,7 @@ all-at (k ∷ ks) =
     ap₂ _&&_ (sees-at (k .steps) (figuresOf (k .device .part) .bytes) (fresh (k .device)) (length-replicate (figuresOf (k .device .part) .bytes) 0xFF)) (all-at ks)
 
 computed : T (allAt cases) × T (allAt further)
-unfolding allAt cases further seesAt mapAt window sumAt memory-is.blank memory-is.filled memory-is.programmed memory-is.erased figuresOf protectedOf waitCall powerUpCall soundAnswer waited poweredUp sound statusByte moded latched settled running latchAt rowOf addressOf hostNumber inProtected asNeeded chipNumber decided verdictOf byRow heard heardRow driven lined drivingAt firstOf countOf noSlots cycleOf touched changed bpIn turned outcomeOf
+unfolding allAt cases further seesAt mapAt window sumAt memory-is.blank memory-is.filled memory-is.programmed memory-is.erased figuresOf protectedOf waitCall powerUpCall soundAnswer waited poweredUp sound statusByte moded latched settled running latchAt rowOf addressOf hostNumber inProtected asNeeded chipNumber decided verdictOf byRow heard heardRow driven lined drivingAt firstOf countOf noSlots cycleOf touched changed missingOf missing missingAt pageOf memory-is.reached memory-is.landed ones onesIn bpIn turned outcomeOf
 computed = (tt, tt)
 
 -- K1 to K15 hold

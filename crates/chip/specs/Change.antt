@@ -5,6 +5,7 @@ use Prim.Native.Nat.{ℕ, _/_, _%_}
 use lib.Dec.{eqb, leb}
 use lib.ListN.{drop}
 use Rattle.memory.specs.Memory.{blank, filled}
+use Rattle.memory.specs.Missing.{missing, pageOf}
 use Rattle.parts.specs.declared.Figures.{Figures}
 use Rattle.device.specs.declared.Mode.the-variants.{Standby, Deep}
 use Rattle.device.specs.declared.Device.{Device}
@@ -37,6 +38,17 @@ asItWas i x = x
 -- what becomes of byte x at place i: what the cycle makes of it, where one is started
 unfoldable pub changed : Turn → Figures → ℕ → List ℕ → ℕ → ℕ → ℕ
 changed t f at sent = onStart t (λ k. touched f (cycleOf k at sent)) asItWas
+
+-- how many bits were missing for a cycle: for a program, of its data and the addressed page before; for every other kind none
+abbrev pub missingIn : Kind → ℕ → List ℕ → List ℕ → ℕ
+missingIn Settings at sent array = 0
+missingIn Page at sent array = missing at (drop 4 sent) (pageOf at array)
+missingIn Sector at sent array = 0
+missingIn All at sent array = 0
+
+-- how many for an instruction: none where no cycle is started
+unfoldable pub missingOf : Turn → ℕ → List ℕ → List ℕ → ℕ
+missingOf t at sent array = onStart t (λ k. missingIn k at sent array) 0
 
 -- ---- the record
 

@@ -2,7 +2,7 @@
 use mathlib.Core.Path.{_≡_}
 use mathlib.Core.Bool.{Bool, true}
 use mathlib.Core.List.{List, [], _∷_}
-use Prim.Native.Nat.{ℕ}
+use Prim.Native.Nat.{ℕ, _+_}
 use lib.ListN.{length, replicate}
 use Rattle.parts.specs.Parts.{figuresOf}
 use Rattle.device.specs.Device.{sound, waitCall, powerUpCall}
@@ -48,6 +48,11 @@ reply starts c = record { answer = bare (powerUpCall (c .device) .answer); line 
 abbrev pub run : List Event → Chip → Chip
 run [] c = c
 run (e ∷ es) c = run es (after e c)
+
+-- the bits missing, summed over the events
+abbrev pub missed : List Event → Chip → ℕ
+missed [] c = 0
+missed (e ∷ es) c = reply e c .answer .missing + missed es (after e c)
 
 -- what the caller sees, in order
 abbrev pub story : List Event → Chip → List Reply

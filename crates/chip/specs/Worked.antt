@@ -29,7 +29,9 @@ same (x ∷ xs) (y ∷ ys) = eqb x y && same xs ys
 
 -- the caller sees this answer and this line
 abbrev pub gave : Reply → Answer → List ℕ → Bool
-gave o a r = eqb (o .answer .number) (a .number) && eqb (o .answer .first) (a .first) && eqb (o .answer .count) (a .count) && same (o .line) r
+gave o a r =
+    eqb (o .answer .number) (a .number) && eqb (o .answer .first) (a .first) && eqb (o .answer .count) (a .count) && eqb (o .answer .missing) (a .missing)
+    && same (o .line) r
 
 -- all that is to be seen is seen, in order
 unfoldable pub sees : List Step → Chip → Bool
@@ -79,7 +81,7 @@ waits t = tells (chip.waits t) (bare 0) []
 abbrev pub starts : Step
 starts = tells chip.starts (bare 0) []
 
--- answered by a number, with nothing driven; by the level of W and the further pulses
+-- answered by a number, with nothing driven and no bits missing; by the level of W and the further pulses
 abbrev pub told : Bool → ℕ → List ℕ → ℕ → Step
 told w p bytes k = sends w p bytes (bare k) (replicate (length bytes) 0xFF)
 
@@ -89,7 +91,11 @@ answers bytes k = told true 0 bytes k
 
 -- executed, and driven from a position on: the position, and what is driven
 abbrev pub reads : List ℕ → ℕ → List ℕ → Step
-reads bytes first r = sends true 0 bytes (record { number = 0; first = first; count = length r }) (replicate first 0xFF ++ r)
+reads bytes first r = sends true 0 bytes (record { number = 0; first = first; count = length r; missing = 0 }) (replicate first 0xFF ++ r)
+
+-- a program that is executed, with so many bits missing
+abbrev pub misses : List ℕ → ℕ → Step
+misses bytes k = sends true 0 bytes (record { number = 0; first = 0; count = 0; missing = k }) (replicate (length bytes) 0xFF)
 
 -- the status byte is s
 abbrev pub status : ℕ → Step
@@ -109,12 +115,12 @@ k2 = record { device = bench 0 false false; steps = told true 1 (0x06 ∷ []) 15
 abbrev pub k3 : Case
 k3 = record { device = bench 0 false false; steps = answers (0x02 ∷ 0 ∷ 0 ∷ 0x10 ∷ 0 ∷ []) 16 ∷ holds 16 0xFF ∷ [] }
 
--- AA programmed onto F0 leaves A0
+-- AA programmed onto F0 leaves A0; two bits were missing
 abbrev pub k4 : Case
 k4 = record {
   device = usual;
   steps =
-      answers (0x02 ∷ 0 ∷ 0 ∷ 0 ∷ 0xF0 ∷ []) 0 ∷ holds 0 0xF0 ∷ waits 3 ∷ answers (0x06 ∷ []) 0 ∷ answers (0x02 ∷ 0 ∷ 0 ∷ 0 ∷ 0xAA ∷ []) 0 ∷ holds 0 0xA0 ∷ [];
+      answers (0x02 ∷ 0 ∷ 0 ∷ 0 ∷ 0xF0 ∷ []) 0 ∷ holds 0 0xF0 ∷ waits 3 ∷ answers (0x06 ∷ []) 0 ∷ misses (0x02 ∷ 0 ∷ 0 ∷ 0 ∷ 0xAA ∷ []) 2 ∷ holds 0 0xA0 ∷ [];
 }
 
 -- 257 data bytes at 000000, first 11, last 22, between them FF: byte 0 is 22, not 00
@@ -248,5 +254,34 @@ one-tick = record {
 abbrev pub last-tick : Case
 last-tick = record { device = usual; steps = answers (0x01 ∷ 0xFF ∷ []) 0 ∷ status 0x8F ∷ waits 1 ∷ status 0x8D ∷ waits 1 ∷ status 0x8C ∷ [] }
 
+-- a rewrite in place: 0F over A0 wants four bits, FF over 00 eight, FF over FF none; the 00 beside them, which no data reaches, counts nothing
+abbrev pub rewrite : Case
+rewrite = record {
+  device = usual;
+  steps =
+      answers (0x02 ∷ 0 ∷ 0 ∷ 0x10 ∷ 0xA0 ∷ 0x00 ∷ 0xFF ∷ 0x00 ∷ []) 0 ∷ waits 3 ∷ answers (0x06 ∷ []) 0
+      ∷ misses (0x02 ∷ 0 ∷ 0 ∷ 0x10 ∷ 0x0F ∷ 0xFF ∷ 0xFF ∷ []) 12 ∷ holds 16 0x00 ∷ holds 17 0x00 ∷ holds 18 0xFF ∷ waits 3
+      ∷ answers (0x06 ∷ []) 0 ∷ answers (0xD8 ∷ 0 ∷ 0 ∷ 0 ∷ []) 0 ∷ waits 5 ∷ answers (0x06 ∷ []) 0
+      ∷ answers (0x02 ∷ 0 ∷ 0 ∷ 0x10 ∷ 0x0F ∷ 0xFF ∷ 0xFF ∷ []) 0 ∷ holds 16 0x0F ∷ [];
+}
+
+-- data that wraps: byte 255 of the page and byte 0 count, byte 0 of the next page does not
+abbrev pub wrapped-rewrite : Case
+wrapped-rewrite = record {
+  device = usual;
+  steps =
+      answers (0x02 ∷ 0 ∷ 0 ∷ 0xFF ∷ 0x0F ∷ 0xFC ∷ []) 0 ∷ waits 3 ∷ answers (0x06 ∷ []) 0 ∷ answers (0x02 ∷ 0 ∷ 0x01 ∷ 0 ∷ 0 ∷ []) 0 ∷ waits 3
+      ∷ answers (0x06 ∷ []) 0 ∷ misses (0x02 ∷ 0 ∷ 0 ∷ 0xFF ∷ 0xFF ∷ 0xFF ∷ []) 6 ∷ [];
+}
+
+-- 257 data bytes over 00 and 7F, the first and the last for the same slot: what the last wants counts, not what the first wanted
+abbrev pub last-wants : Case
+last-wants = record {
+  device = usual;
+  steps =
+      answers (0x02 ∷ 0 ∷ 0 ∷ 0 ∷ 0x00 ∷ 0x7F ∷ []) 0 ∷ waits 3 ∷ answers (0x06 ∷ []) 0
+      ∷ misses ((0x02 ∷ 0 ∷ 0 ∷ 0 ∷ 0xFF ∷ []) ++ (replicate 255 0xFF ++ (0x03 ∷ []))) 3 ∷ [];
+}
+
 unfoldable pub further : List Case
-further = low-alone ∷ low-program ∷ busy-unknown ∷ roll-over ∷ two-bits ∷ three-bits ∷ wraps ∷ erases ∷ names ∷ older ∷ older-busy ∷ older-deep ∷ one-tick ∷ last-tick ∷ []
+further = low-alone ∷ low-program ∷ busy-unknown ∷ roll-over ∷ two-bits ∷ three-bits ∷ wraps ∷ erases ∷ names ∷ older ∷ older-busy ∷ older-deep ∷ one-tick ∷ last-tick ∷ rewrite ∷ wrapped-rewrite ∷ last-wants ∷ []

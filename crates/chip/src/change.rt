@@ -1,7 +1,7 @@
 // What an executed instruction changes: the array by the cycle that it starts, and the record.
 ghost use mathlib.Core.Path.{_≡_};
 ghost use Rattle.slices.specs.Changed.{mapAt};
-ghost use Rattle.chip.specs.Change.{cycleOf, changed, bpIn, settledBy, turned};
+ghost use Rattle.chip.specs.Change.{cycleOf, changed, missingIn, missingOf, bpIn, settledBy, turned};
 use crate::table::Turn;
 use device::Device;
 use device::Mode;
@@ -41,20 +41,37 @@ fn cycle_of(kind: Kind, at: u32, sent: &[u8]) -> Cycle
     }
 }
 
-// Carries out the cycle that an instruction starts.
-pub(crate) fn carry_out(turn: Turn, figures: Figures, at: u32, sent: &[u8], array: &mut [u8])
-    ensures { λ _. ⌜ now (array .exit) ≡ mapAt (changed turn figures at (now (sent .entry))) (now (array .entry)) ⌝ }
+// How many bits a program wants 1 that are 0 in the array; 0 for every other kind of cycle.
+fn missing_in(kind: Kind, at: u32, sent: &[u8], array: &[u8]) -> u32
+    ensures { λ r. ⌜ r ≡ missingIn kind at (now (sent .entry)) (now (array .entry)) ⌝ }
+{
+    match kind {
+        Kind::Settings => 0,
+        Kind::Page => {
+            let from = slices::least(4, sent.len());
+            memory::missing(array, at, &sent[from..])
+        }
+        Kind::Sector => 0,
+        Kind::All => 0,
+    }
+}
+
+// Carries out the cycle that an instruction starts, and hands back the bits missing, counted before the array changes.
+pub(crate) fn carry_out(turn: Turn, figures: Figures, at: u32, sent: &[u8], array: &mut [u8]) -> u32
+    ensures { λ r. ⌜ (r ≡ missingOf turn at (now (sent .entry)) (now (array .entry))) × (now (array .exit) ≡ mapAt (changed turn figures at (now (sent .entry))) (now (array .entry))) ⌝ }
 {
     match turn {
         Turn::Start(kind) => {
+            let missing = missing_in(kind, at, sent, array);
             let cycle = cycle_of(kind, at, sent);
             cycle.complete(figures, array);
+            missing
         }
-        Turn::Keep => {}
-        Turn::Enable => {}
-        Turn::Disable => {}
-        Turn::Sleep => {}
-        Turn::Wake => {}
+        Turn::Keep => 0,
+        Turn::Enable => 0,
+        Turn::Disable => 0,
+        Turn::Sleep => 0,
+        Turn::Wake => 0,
     }
 }
 

@@ -23,11 +23,12 @@ use table::Instruction;
 // The most bytes that a transaction has.
 pub const LONGEST: usize = 65_536;
 
-// An answer: its number, the first driven position and the driven count.
+// An answer: its number, the first driven position and the driven count; and the bits that a program wanted 1 and the array had 0.
 pub struct Answer {
     pub number: u8,
     pub first: u32,
     pub count: u32,
+    pub missing: u32,
 }
 
 // A transaction's answer, and the next record.
@@ -37,7 +38,7 @@ pub struct Done {
 }
 
 impl Answer {
-    // An answer with nothing driven.
+    // An answer with nothing driven and no bits missing.
     pub fn bare(number: u8) -> Self
         ensures { λ r. ⌜ r ≡ bare number ⌝ }
     {
@@ -45,14 +46,15 @@ impl Answer {
             number,
             first: 0,
             count: 0,
+            missing: 0,
         }
     }
 }
 
-// An executed transaction's answer and next record: what it drives, and its byte 1.
-fn executed(device: Device, asked: Instruction, span: Span, b: u8) -> Done
+// An executed transaction's answer and next record: what it drives, the bits missing, and its byte 1.
+fn executed(device: Device, asked: Instruction, span: Span, missing: u32, b: u8) -> Done
     requires { ⌜ (span .first ≤ longest) × (span .count ≤ longest) ⌝ }
-    ensures { λ o. ⌜ o ≡ executedWith device asked span b ⌝ }
+    ensures { λ o. ⌜ o ≡ executedWith device asked span missing b ⌝ }
 {
     let row = asked.row;
     let turn = row.turn;
@@ -61,6 +63,7 @@ fn executed(device: Device, asked: Instruction, span: Span, b: u8) -> Done
         number: 0,
         first: span.first as u32,
         count: span.count as u32,
+        missing,
     };
     Done {
         answer,
@@ -83,8 +86,8 @@ fn execute(
     let row = asked.row;
     let turn = row.turn;
     let span = line::respond(device, asked, array, sent, response);
-    change::carry_out(turn, figures, asked.address, sent, array);
-    executed(device, asked, span, slices::byte_at(sent, 1))
+    let missing = change::carry_out(turn, figures, asked.address, sent, array);
+    executed(device, asked, span, missing, slices::byte_at(sent, 1))
 }
 
 // One transaction: the bytes sent, the further pulses, and the level of W as Chip Select rises.
@@ -125,7 +128,7 @@ pub fn transact(
     }
 }
 
-// What a transaction would answer on an array and a response of these lengths, and the record that it would leave. Nothing is touched.
+// What a transaction would answer on an array and a response of these lengths, and the record that it would leave. Nothing is touched. Bits missing are not foreseen: the array alone tells them, and the answer has 0.
 pub fn foreseen(
     device: Device,
     array: usize,
@@ -149,7 +152,7 @@ pub fn foreseen(
         }
         Verdict::Executed => {
             let span = line::span_driven(device, asked, sent.len());
-            return executed(device, asked, span, slices::byte_at(sent, 1));
+            return executed(device, asked, span, 0, slices::byte_at(sent, 1));
         }
     }
 }

@@ -47,3 +47,24 @@ pub(crate) fn last_wins(name: &[u8], slot: u8, first: u8, last: u8) {
     steps::print_byte(&a, text::address(0, 1, slot));
     steps::finish(t);
 }
+
+// 256 bytes 00 in page 0, then 257 data bytes FF but for the last, which is 0F and stands in the slot that the first had: 255 times eight bits are missing, and four.
+pub(crate) fn rewritten() {
+    let mut zeros = [0; 260];
+    zeros[0] = 2;
+    let mut sent = [0xFF; 261];
+    sent[0] = 2;
+    sent[1] = 0;
+    sent[2] = 0;
+    sent[3] = 0;
+    sent[260] = 0x0F;
+    let mut a = [0; 4096];
+    let mut b = [0; 4096];
+    let mut r = [0; 300];
+    let mut s = [0; 300];
+    let t = steps::begin(b"missing-most", 0, &mut a, &mut b);
+    let t = steps::exchange(t, &mut a, &mut b, &zeros, 0, true, &mut r, &mut s);
+    let t = steps::ready(t);
+    let t = steps::exchange(t, &mut a, &mut b, &sent, 0, true, &mut r, &mut s);
+    steps::finish(t);
+}

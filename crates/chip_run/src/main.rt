@@ -35,7 +35,7 @@ fn worked_first() {
     bench(b"K2", b"= 0 0 0;x 1 0 06;s;= 0 0 0;x 1 1 06;s");
     // latch reset: 0200001000 gives 16
     bench(b"K3", b"= 0 0 0;x 1 0 0200001000");
-    // AA programmed onto F0 leaves A0
+    // AA programmed onto F0 leaves A0; two bits were missing
     bench(
         b"K4",
         b"x 1 0 02000010F0;w 3;x 1 0 06;x 1 0 02000010AA;a 000010",
@@ -123,6 +123,26 @@ fn instructions() {
         b"short-reads",
         b"x 1 0 030000;x 1 7 03000000;x 1 0 0B000000;x 1 7 0B00000000",
     );
+}
+
+// Programs that want bits 1 that are 0.
+fn missing() {
+    // 0F over A0 wants four bits, FF over 00 eight, FF over FF none, and no data reaches the 00 behind them; after an erase none is missing
+    bench(
+        b"missing-rewrite",
+        b"x 1 0 02000010A000FF00;w 3;x 1 0 06;x 1 0 020000100FFFFF;a 000010;a 000011;w 3;x 1 0 06;x 1 0 D8000000;w 5;x 1 0 06;x 1 0 020000100FFFFF",
+    );
+    // data that wraps: FF over 0F at 0000FF, then FF over FC at 000000; the 00 at 000100 does not count
+    bench(
+        b"missing-wrap",
+        b"x 1 0 020000FF0FFC;w 3;x 1 0 06;x 1 0 0200010000;w 3;x 1 0 06;x 1 0 020000FFFFFF",
+    );
+    // none where the program is ignored: 12, 16, 17, 15
+    bench(
+        b"missing-ignored",
+        b"x 1 0 02000C1000;x 1 0 02000C10FF;w 3;x 1 0 02000C10FF;= 0 1 1;x 1 0 02000C10FF;x 1 1 02000C10FF;= 0 0 1;x 1 0 02000C10FF",
+    );
+    long::rewritten();
 }
 
 // Deep power-down, cycles, waiting and power-up.
@@ -266,6 +286,7 @@ fn main() {
     worked_last();
     wrong_readings();
     instructions();
+    missing();
     modes();
     refusals();
     on_m25p10a();

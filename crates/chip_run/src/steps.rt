@@ -1,7 +1,7 @@
 // One case at a time, run side by side through the entry by value and through the entry that takes the record lent.
 //
 // A script is a run of steps parted by semicolons:
-//   x W bits hex   one transaction: prints the answer (number, first, count), the response, and three marks:
+//   x W bits hex   one transaction: prints the answer (number, first, count, bits missing), the response, and three marks:
 //                  r the record changed, a the array changed, b the response changed from byte n on
 //   w t            waits t ticks, one digit: prints the answer
 //   p              powers up: prints the answer
@@ -50,7 +50,8 @@ pub(crate) fn same_record(d: Device, e: Device) -> bool {
 
 // Whether two answers are the same.
 fn same_answer(x: Answer, y: Answer) -> bool {
-    (x.number == y.number) & (x.first == y.first) & (x.count == y.count)
+    let driven = (x.first == y.first) & (x.count == y.count);
+    (x.number == y.number) & driven & (x.missing == y.missing)
 }
 
 // Prints an answer.
@@ -59,6 +60,7 @@ fn print_answer(x: Answer) {
     show::print_number(x.number as u64);
     show::print_number(x.first as u64);
     show::print_number(x.count as u64);
+    show::print_number(x.missing as u64);
     io::write_all(1, b" ");
 }
 

@@ -11,9 +11,9 @@ use Rattle.device.specs.Device.{waitCall}
 use Rattle.chip.specs.declared.Answer.{Answer}
 use Rattle.chip.specs.Answers.{hostNumber}
 use Rattle.chip.specs.Outcome.{Outcome, bare, outcomeOf, Transacted}
-use Rattle.chip.specs.Events.{Chip, after}
-use Rattle.chip.proofs.Events.{no-refusal, after-good, any-response}
-use Rattle.jobs.specs.Jobs.{Job, longestCycle, enable, rest, afterJob, answered, AtRest, WellFormed}
+use Rattle.chip.specs.Events.{Chip, after, reply}
+use Rattle.chip.proofs.Events.{no-refusal, sent-room}
+use Rattle.jobs.specs.Jobs.{Job, longestCycle, enable, carry, rest, afterJob, AtRest, WellFormed}
 use Rattle.jobs.specs.Call.{jobOf, jobbed, Jobbed, alone}
 
 module _ (d : Device) (xs sent : List ℕ) (p : ℕ) (w : Bool) (r : List ℕ) where
@@ -40,9 +40,9 @@ module _ (d : Device) (xs sent : List ℕ) (p : ℕ) (w : Bool) (r : List ℕ) w
         line = m .line ∙ rw (eo, ey);
       })
 
--- from standby the call of a well-formed job, with room for its response, is the job of the theorems: same number, record and array
+-- from standby the call of a well-formed job, with room for its response, is the job of the theorems: the answer of its program or erase, bits missing among it, record and array
 pub record IsJob (o : Outcome) (j : Job) (c : Chip) : Type 0 where
-  pub number : o .answer .number ≡ answered j c
+  pub answer : o .answer ≡ reply (carry j) (after (enable j) c) .answer
   pub device : o .device ≡ afterJob j c .device
   pub array : o .array ≡ afterJob j c .array
 
@@ -51,6 +51,6 @@ pub job-call : (c : Chip) → AtRest c → (sent : List ℕ) (p : ℕ) (w : Bool
 unfolding jobbed
 job-call c s sent p w r f room =
     let j = jobOf sent p w in
-    let e = any-response (after (enable j) c) (after-good (enable j) c (s .good)) sent p w (f .few) (f .pulses) r room in
+    let e = sent-room (after (enable j) c) sent p w r room in
     rw (no-refusal (c .device) (length (c .array)) (length sent) p (length r) (s .good .sound) (s .good .whole) (f .few) (f .pulses) room)
-    (record { number = e .0 .number; device = rw (e .1, e .2); array = rw (e .1, e .2) })
+    (record { answer = e .0; device = rw (e .1, e .2); array = rw (e .1, e .2) })

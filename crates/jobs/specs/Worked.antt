@@ -1,28 +1,32 @@
--- Lists of jobs on the bench part, computed: programs executed and ignored, an erase between them, two programs on one byte.
+-- Lists of jobs on the bench part, computed: programs executed and ignored, an erase between them, two programs on one byte; and one job as a call.
 use mathlib.Core.Path.{_≡_, refl}
 use mathlib.Core.Bool.{true, false, _||_, true≢false}
 use mathlib.Core.List.{List, [], _∷_, _++_}
 use Prim.Native.Nat.{ℕ, _≤_}
 use native.Mathlib.Omega.{arith}
+use lib.Count.{onesIn, ones}
 use lib.Dec.{lit≤}
 use lib.ListN.{length, getD, replicate, length-replicate}
-use Rattle.slices.specs.Changed.{mapAt}
+use Rattle.slices.specs.Changed.{mapAt, window, sumAt}
 use Rattle.memory.specs.Memory.{blank, reached, landed, programmed, erased}
 use Rattle.memory.specs.Memory as memory
+use Rattle.memory.specs.Missing.{missingAt, missing, pageOf}
 use Rattle.parts.specs.Parts.{figuresOf}
 use Rattle.parts.specs.Protected.{protectedOf}
 use Rattle.device.specs.declared.Mode.the-variants.{Standby, Busy}
 use Rattle.device.specs.declared.Device.{Device}
 use Rattle.device.specs.declared.Checked.{Checked}
-use Rattle.device.specs.Device.{sound, latchAt, moded, latched, settled, running, waited, soundAnswer, waitCall}
+use Rattle.device.specs.Device.{sound, statusByte, latchAt, moded, latched, settled, running, waited, soundAnswer, waitCall}
 use Rattle.chip.specs.Table.{rowOf, addressOf}
 use Rattle.chip.specs.Answers.{hostNumber, chipNumber, asNeeded, inProtected, decided, verdictOf}
 use Rattle.device.specs.Cycles.{touched}
-use Rattle.chip.specs.Change.{bpIn, cycleOf, changed, turned}
-use Rattle.chip.specs.Outcome.{outcomeOf, transacted}
+use Rattle.chip.specs.Line.{byRow, heard, heardRow, driven, lined, drivingAt, firstOf, countOf}
+use Rattle.chip.specs.Change.{bpIn, cycleOf, changed, missingOf, turned}
+use Rattle.chip.specs.Outcome.{Outcome, bare, outcomeOf, transacted}
 use Rattle.chip.specs.Events.{Chip, sent, run}
 use Rattle.jobs.specs.Jobs.{Job, Entry, longestCycle, enable, carry, afterJob, runJobs, history, isProgram, isErase, isBulkErase, AtRest, WellFormed, AllFormed}
 use Rattle.jobs.specs.Formula.{afterLastErase, programmedBytes, endsAs}
+use Rattle.jobs.specs.Call.{jobbed}
 
 -- the bench part in standby with BP 1, which protects the sector from 000C00 on; durations 3, 5, 9, 2; every byte 7F
 abbrev pub start : Chip
@@ -110,6 +114,31 @@ pub shown : Shown
 unfolding sent transacted outcomeOf verdictOf decided hostNumber chipNumber rowOf addressOf asNeeded inProtected protectedOf cycleOf touched changed turned running moded latched waited waitCall soundAnswer sound latchAt figuresOf mapAt programmed erased blank memory.filled reached landed
 shown =
     record { erase-last = refl; erase-first = refl; answers = refl; anded = refl; protects = refl; erases = refl; keeps = refl; anew = refl; later = refl; formula = refl; formula-first = refl }
+
+-- ---- one job as a call
+
+-- a program of F0 at 000010, as a call with further pulses and a response of five bytes, over 7F
+abbrev pub called : ℕ → Outcome
+called pulses = jobbed (start .device) (start .array) (0x02 ∷ 0x00 ∷ 0x00 ∷ 0x10 ∷ 0xF0 ∷ []) pulses false (replicate 5 0x55)
+
+-- what the call shows
+pub record Called : Type 0 where
+  -- executed, with one bit missing; the record is in standby with its latch reset, as before
+  pub executed : called 0 .answer ≡ record { number = 0; first = 0; count = 0; missing = 1 }
+  pub byte : getD (called 0 .array) 16 0 ≡ 0x70
+  pub rests : called 0 .device ≡ start .device
+  pub line : called 0 .response ≡ replicate 5 0xFF
+  -- one further pulse: ignored with 15, and no bits are missing
+  pub ignored : called 1 .answer ≡ bare 15
+  pub kept : getD (called 1 .array) 16 0 ≡ 0x7F
+  pub still : called 1 .device ≡ start .device
+  -- eight: refused with 4, and nothing changes
+  pub refused : called 8 ≡ record { answer = bare 4; device = start .device; array = replicate 4096 0x7F; response = replicate 5 0x55 }
+
+-- computed by the checker
+pub is-called : Called
+unfolding jobbed sent transacted outcomeOf verdictOf decided hostNumber chipNumber rowOf addressOf asNeeded inProtected protectedOf cycleOf touched changed missingOf missing missingAt pageOf ones onesIn turned running moded latched waited waitCall soundAnswer sound statusByte latchAt figuresOf mapAt window sumAt programmed erased blank memory.filled reached landed byRow heard heardRow driven lined drivingAt firstOf countOf
+is-called = record { executed = refl; byte = refl; rests = refl; line = refl; ignored = refl; kept = refl; still = refl; refused = refl }
 
 -- ---- the wait
 

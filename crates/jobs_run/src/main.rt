@@ -1,4 +1,4 @@
-// Runs lists of jobs on the bench part, neighbours swapped and not, and writes the answers, whether the arrays end the same, and byte 16 of each.
+// Runs lists of jobs on the bench part, neighbours swapped and not, and writes the answers with the bits missing, whether the arrays end the same, and byte 16 of each.
 use device::Device;
 
 // One transaction.
@@ -16,13 +16,15 @@ fn set(device: Device, array: &mut [u8], settings: &[u8]) -> Device {
     waited.device
 }
 
-// One job, its answer number written.
+// One job, its answer number and the bits missing written.
 fn step(device: Device, array: &mut [u8], sent: &[u8]) -> Device {
     let mut response = [0; 16];
     let done = jobs::run_job(device, array, sent, 0, true, &mut response);
     let answer = done.answer;
     let number = answer.number;
     show::print_number(show::wide(number));
+    io::write_all(1, b"/");
+    io::print_decimal(1, answer.missing as u64);
     done.device
 }
 

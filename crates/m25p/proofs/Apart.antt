@@ -8,35 +8,38 @@ use native.Mathlib.Omega.{arith}
 use lib.Dec.{eqb, ltb, lit≤}
 use lib.ListN.{length}
 use Rattle.slices.proofs.Choices.{cond-ind, zero-ind}
+use Rattle.memory.specs.Missing.{mostMissing}
 use Rattle.parts.specs.Parts.{figuresOf, knownPart}
 use Rattle.device.specs.declared.Device.{Device}
 use Rattle.device.specs.declared.Checked.{Checked}
-use Rattle.device.specs.Device.{sound, rangedOf, waitCall, powerUpCall, soundAnswer}
+use Rattle.device.specs.Device.{sound, onZero, rangedOf, waitCall, powerUpCall, soundAnswer}
 use Rattle.device.specs.Packing.{packedLength, formed, fieldsOf, unpackAnswer, unpackOf}
 use Rattle.chip.specs.declared.Answer.{Answer}
 use Rattle.chip.specs.Answers.{deliveryAnswer}
 use Rattle.chip.specs.Outcome.{Outcome, bare, outcomeOf}
 use Rattle.chip.proofs.Rules.{Few, answer-few}
 use Rattle.pins.specs.Pins.{oddSamples, tooLong}
-use Rattle.pins.specs.Run.{runAnswer}
+use Rattle.pins.specs.Run.{missedIn, runAnswer, answerOf}
+use Rattle.pins.proofs.Carried.{missed-most}
 use Rattle.m25p.specs.Calls.{packedAnswer, high, transactedC, Called, checkedC, CalledOn, deliveryC, DeliveredC}
 use Rattle.m25p.specs.Pins.{pinsC, RanC}
 
--- bits 0 to 7, 8 to 15 and 16 to 47 are the answer's numbers, bits 48 to 63 are zero
+-- bits 0 to 7, 8 to 15, 16 to 47 and 48 to 63 are the answer's numbers, and there are no bits above
 pub record Apart (r : ℕ) (a : Answer) : Type 0 where
   pub number : r % 256 ≡ a .number
   pub first : r / 256 % 256 ≡ a .first
   pub count : r / 65536 % 4294967296 ≡ a .count
-  pub zeros : r / 281474976710656 ≡ 0
+  pub missing : r / 281474976710656 ≡ a .missing
+  pub fits : r < 18446744073709551616
 
 -- numbers that fit their bits come apart
-apart : (a : Answer) → a .number < 256 → a .first < 256 → a .count < 4294967296 → Apart (packedAnswer a) a
+apart : (a : Answer) → a .number < 256 → a .first < 256 → a .count < 4294967296 → a .missing < 65536 → Apart (packedAnswer a) a
 unfolding packedAnswer
-apart a h k l = record { number = omega arith; first = omega arith; count = omega arith; zeros = omega arith }
+apart a h k l m = record { number = omega arith; first = omega arith; count = omega arith; missing = omega arith; fits = omega arith }
 
--- so does an answer with nothing driven
+-- so does an answer with nothing driven and no bits missing
 apart-bare : {r k : ℕ} → r ≡ packedAnswer (bare k) → k ≤ 23 → Apart r (bare k)
-apart-bare {r} {k} e h = rw e (apart (bare k) (omega arith) (omega arith) (omega arith))
+apart-bare {r} {k} e h = rw e (apart (bare k) (omega arith) (omega arith) (omega arith) (omega arith))
 
 -- unpacking answers 0, 6 or 8
 unpack-few : (b : List ℕ) → unpackAnswer b ≤ 8
@@ -50,8 +53,8 @@ unfolding transactedC outcomeOf
 transact-apart packed array sent pulses w response p =
     let f : Few (transactedC packed array sent pulses w response .answer) = zero-ind (λ (o : Outcome). Few (o .answer)) (unpackAnswer packed)
     (answer-few (unpackOf packed .device) array sent pulses (high w) response)
-    (record { number = omega (arith, unpack-few packed); first = lit≤ tt; count = lit≤ tt }) in
-    rw (p .answer) (apart _ (omega (arith, f .number)) (omega (arith, f .first)) (omega (arith, f .count)))
+    (record { number = omega (arith, unpack-few packed); first = lit≤ tt; count = lit≤ tt; missing = lit≤ tt }) in
+    rw (p .answer) (apart _ (omega (arith, f .number)) (omega (arith, f .first)) (omega (arith, f .count)) (omega (arith, f .missing)))
 
 -- a checked call that answers at most 8
 checked-few : (call : Device → Checked) (packed : List ℕ) → ((d : Device) → call d .answer ≤ 8) → checkedC call packed .answer ≤ 8
@@ -85,16 +88,24 @@ deliver-apart packed part array p s b t d =
     (cond-ind P (not (rangedOf p && rangedOf s && rangedOf b && rangedOf t)) (lit≤ tt) (lit≤ tt))))
     (lit≤ tt))
 
--- a run over samples
-pub pins-apart : (packed array samples output : List ℕ) {r : ℕ} {packed′ array′ output′ : List ℕ} → RanC packed array samples output r packed′ array′ output′
-    → Apart r (bare (pinsC packed (length array) samples (length output)))
+-- a run over samples answers at most 23
+pins-few : (packed array samples output : List ℕ) → pinsC packed (length array) samples (length output) ≤ 23
 unfolding pinsC runAnswer
-pins-apart packed array samples output ran =
+pins-few packed array samples output =
     let P : ℕ → Type 0 = λ k. k ≤ 23 in
     let d = unpackOf packed .device in
-    apart-bare (ran .answer)
-    (zero-ind P (unpackAnswer packed)
+    zero-ind P (unpackAnswer packed)
     (cond-ind P (not (sound d)) (lit≤ tt)
     (cond-ind P (not (eqb (length array) (figuresOf (d .part) .bytes))) (lit≤ tt)
     (cond-ind P (oddSamples samples) (lit≤ tt) (cond-ind P (tooLong samples) (lit≤ tt) (cond-ind P (ltb (length output) (length samples)) (lit≤ tt) (lit≤ tt))))))
-    (omega (arith, unpack-few packed)))
+    (omega (arith, unpack-few packed))
+
+-- a run over samples
+pub pins-apart : (packed array samples output : List ℕ) {r : ℕ} {packed′ array′ output′ : List ℕ} → RanC packed array samples output r packed′ array′ output′
+    → Apart r (answerOf (pinsC packed (length array) samples (length output)) (unpackOf packed .device) array samples)
+unfolding answerOf
+pins-apart packed array samples output ran =
+    let k = pinsC packed (length array) samples (length output) in
+    let d = unpackOf packed .device in
+    let m : onZero k (missedIn d array samples) 0 ≤ mostMissing = zero-ind (λ (n : ℕ). n ≤ mostMissing) k (missed-most d array samples) (lit≤ tt) in
+    rw (ran .answer) (apart (answerOf k d array samples) (omega (arith, pins-few packed array samples output)) (omega arith) (omega arith) (omega arith))

@@ -3,12 +3,13 @@
 use mathlib.Core.Path.{_≡_, refl, sym, ap, _∙_}
 use mathlib.Core.Bool.{Bool, true, not, _&&_}
 use mathlib.Core.List.{List}
-use Prim.Native.Nat.{ℕ, zero, suc}
+use Prim.Native.Nat.{ℕ, zero, suc, _≤_}
 use borrow.Author.Tests.{eq-eqb, ne-eqb, not-false}
 use lib.Dec.{eqb}
 use lib.ListN.{length}
 use Rattle.slices.specs.Changed.{mapAt, put}
 use Rattle.slices.proofs.Choices.{both, past, other}
+use Rattle.memory.specs.Missing.{mostMissing}
 use Rattle.parts.specs.Parts.{figuresOf, knownPart}
 use Rattle.device.specs.declared.Device.{Device}
 use Rattle.device.specs.declared.Checked.{Checked}
@@ -21,7 +22,7 @@ use Rattle.chip.specs.declared.answers.Verdict.the-variants.{Refused}
 use Rattle.chip.specs.Answers.{deliveryAnswer}
 use Rattle.chip.specs.Outcome.{Outcome, bare, outcomeOf, transacted, Meets, Delivered}
 use Rattle.chip.proofs.Records.{wait-sound, power-up-sound}
-use Rattle.chip.proofs.Rules.{stays-sound}
+use Rattle.chip.proofs.Rules.{answer-few, stays-sound}
 use Rattle.m25p.specs.Calls.{packedAnswer, high, packedBy, transactedC, Called, checkedC, CalledOn, deliveryC, DeliveredC}
 
 -- ---- packing
@@ -74,6 +75,11 @@ carried packed array sent pulses w response {r} {packed′} {array′} {response
 pub next-sound : (packed array sent : List ℕ) (pulses : ℕ) (w : Bool) (response : List ℕ) {a : Answer} {next : Device} {array′ response′ : List ℕ} → unpackOf packed .answer ≡ 0
     → Meets (transacted (unpackOf packed .device) array sent pulses w response) a next array′ response′ → sound next ≡ true
 next-sound packed array sent pulses w response z m = rw (m .device) (stays-sound (unpackOf packed .device) array sent pulses w response (unpacked-sound packed z))
+
+-- the bits missing fit their place
+pub few-missing : (d : Device) (array sent : List ℕ) (pulses : ℕ) (w : Bool) (response : List ℕ) {a : Answer} {next : Device} {array′ response′ : List ℕ}
+    → Meets (transacted d array sent pulses w response) a next array′ response′ → a .missing ≤ mostMissing
+few-missing d array sent pulses w response m = rw (m .answer) (answer-few d array sent pulses w response .missing)
 
 pub leaves : (a : Answer) (next : Device) (packed : List ℕ) → (a .number ≡ 0 → ⊥) → packed ≡ packedBy (a .number) next packed
 leaves a next packed n = kept (a .number) next packed n

@@ -15,9 +15,9 @@ use Rattle.chip.specs.declared.answers.Verdict.the-variants.{Refused}
 use Rattle.chip.specs.Answers.{deliveryAnswer}
 use Rattle.chip.specs.Outcome.{Outcome, bare, outcomeOf, transacted}
 
--- bits 0 to 7 the answer number, 8 to 15 the first driven position, 16 to 47 the driven count
+-- bits 0 to 7 the answer number, 8 to 15 the first driven position, 16 to 47 the driven count, 48 to 63 the bits missing
 unfoldable pub packedAnswer : Answer → ℕ
-packedAnswer a = a .number + 256 * a .first + 65536 * a .count
+packedAnswer a = a .number + 256 * a .first + 65536 * a .count + 281474976710656 * a .missing
 
 -- W is low for 0, else high
 abbrev pub high : ℕ → Bool

@@ -6,8 +6,7 @@ use lib.ListN.{length}
 use Rattle.slices.specs.Changed.{mapAt, window}
 use Rattle.device.specs.Device.{onZero}
 use Rattle.device.specs.Packing.{unpackAnswer, unpackOf}
-use Rattle.chip.specs.Outcome.{bare}
-use Rattle.pins.specs.Run.{chipAfter, outputAt, runAnswer}
+use Rattle.pins.specs.Run.{chipAfter, outputAt, runAnswer, answerOf}
 use Rattle.m25p.specs.Calls.{packedAnswer, packedBy}
 
 -- the number: 8, 6, 2, 21, 22, 23, or 0
@@ -16,7 +15,7 @@ pinsC packed array samples output = onZero (unpackAnswer packed) (runAnswer (unp
 
 -- what the call promises of its answer and of the bytes as they are handed back
 pub record RanC (packed array samples output : List ℕ) (r : ℕ) (packed′ array′ output′ : List ℕ) : Type 0 where
-  pub answer : r ≡ packedAnswer (bare (pinsC packed (length array) samples (length output)))
+  pub answer : r ≡ packedAnswer (answerOf (pinsC packed (length array) samples (length output)) (unpackOf packed .device) array samples)
   pub bytes : packed′ ≡ packedBy (pinsC packed (length array) samples (length output)) (chipAfter (unpackOf packed .device) array samples .device) packed
   pub memory : array′ ≡ onZero (pinsC packed (length array) samples (length output)) (chipAfter (unpackOf packed .device) array samples .array) array
   pub shown : output′ ≡ onZero (pinsC packed (length array) samples (length output)) (mapAt (window 0 (length samples) (outputAt (unpackOf packed .device) array samples)) output) output

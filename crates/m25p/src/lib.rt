@@ -1,5 +1,7 @@
 // The C calls: delivery, transaction, wait, power-up and raw pins over the packed bytes of a record.
 ghost use mathlib.Core.Path.{_≡_};
+ghost use Prim.Native.Nat.{_≤_};
+ghost use Rattle.memory.specs.Missing.{mostMissing};
 ghost use Rattle.device.specs.Device.{waitCall, powerUpCall};
 ghost use Rattle.m25p.specs.Calls.{packedAnswer, transactedC, Called, checkedC, CalledOn, DeliveredC};
 ghost use Rattle.m25p.specs.Pins.{RanC};
@@ -9,14 +11,16 @@ use device::packing::LENGTH;
 use device::packing::pack;
 use device::packing::unpack;
 
-// The three numbers of an answer in 64 bits.
+// The four numbers of an answer in 64 bits.
 fn packed_answer(answer: Answer) -> u64
+    requires { ⌜ answer .missing ≤ mostMissing ⌝ }
     ensures { λ r. ⌜ r ≡ packedAnswer answer ⌝ }
 {
-    (answer.number as u64) + 256 * (answer.first as u64) + 65536 * (answer.count as u64)
+    let seen = (answer.number as u64) + 256 * (answer.first as u64) + 65536 * (answer.count as u64);
+    seen + 281_474_976_710_656 * (answer.missing as u64)
 }
 
-// An answer with nothing driven.
+// An answer with nothing driven and no bits missing.
 fn bare(number: u8) -> u64
     ensures { λ r. ⌜ r ≡ packedAnswer (Outcome.bare number) ⌝ }
 {
@@ -100,7 +104,7 @@ pub extern "C" fn m25p_power_up(packed: &mut [u8]) -> u64
     bare(0)
 }
 
-// A run over samples of the pins: the transactions carried out in order, and one output byte for each sample.
+// A run over samples of the pins: the transactions carried out in order, the bits missing in them, and one output byte for each sample.
 #[no_mangle]
 pub extern "C" fn m25p_pins(
     packed: &mut [u8],
@@ -115,9 +119,10 @@ pub extern "C" fn m25p_pins(
         return bare(came.answer);
     }
     let done = pins::run(came.device, array, samples, output);
-    if done.answer == 0 {
+    let answer = done.answer;
+    if answer.number == 0 {
         pack(done.device, packed);
-        return bare(0);
+        return packed_answer(answer);
     }
-    bare(done.answer)
+    packed_answer(answer)
 }

@@ -4,54 +4,28 @@ use mathlib.Core.Path.{_≡_, refl, sym, ap, _∙_}
 use mathlib.Core.Bool.{Bool, true, false, cond, not, _&&_, _||_, false≢true}
 use mathlib.Core.List.{List, [], _∷_, _++_}
 use Prim.Native.Nat.{ℕ, _+_, _≤_, _<_}
-use native.Mathlib.Nat.{le-refl}
+use native.Mathlib.Nat.{add-zero}
 use native.Mathlib.Numerals.{add-one}
-use borrow.Author.Tests.{eq-eqb, eqb-true, le-ltb}
+use borrow.Author.Tests.{eq-eqb, eqb-true}
 use lib.Dec.{eqb, lit≤}
-use lib.ListN.{length, getD, take, set, replicate, length-append, length-replicate}
+use lib.ListN.{length, getD, take, set, length-append}
 use lib.Seq.{take-suc-set}
+use Rattle.memory.specs.Missing.{mostMissing}
 use Rattle.device.specs.declared.Device.{Device}
-use Rattle.chip.specs.declared.answers.Verdict.{Verdict}
-use Rattle.chip.specs.declared.answers.Verdict.the-variants.{Refused, Ignored, Executed}
-use Rattle.chip.specs.Answers.{hostNumber, verdictOf}
 use Rattle.chip.specs.Line.{Driven, silent, drives, driven}
 use Rattle.chip.specs.Line.{lineByte}
-use Rattle.chip.specs.Outcome.{outcomeOf, transacted}
+use Rattle.chip.specs.Events.{Event, sends, missed}
 use Rattle.chip.proofs.Lines.{driven-before, heard-laws}
+use Rattle.chip.proofs.Events.{sent-room, missed-append}
+use Rattle.chip.proofs.Missed.{AllSend, missed-few}
 use Rattle.pins.specs.declared.levels.Levels.{Levels}
 use Rattle.pins.specs.declared.underway.Underway.{Underway}
 use Rattle.pins.specs.Pins.{levelsOf, Pins, changes, ends, takes, moves, Transaction, Taking, anew, shifted, bitTaken, movedOn, clocked, nextTaking, nextFound, Seen, step, seen}
-use Rattle.chip.specs.Events.{sent}
-use Rattle.pins.specs.Run.{Chip, carriedOut, carriedAll, chipAfter, bitIn}
-use Rattle.pins.specs.Counted.{underwayOf, noneYet, bitNow, shownOn, stored, oneMore, Clocked, endedWith}
+use Rattle.pins.specs.Run.{Chip, carriedOut, eventsOf, carriedAll, chipAfter, missedBy, missedIn, bitIn}
+use Rattle.pins.specs.Counted.{underwayOf, noneYet, bitNow, shownOn, stored, oneMore, Clocked, endedWith, missedWith}
 use Rattle.pins.proofs.Seen.{seen-next, unchanged}
 
 -- ---- a transaction carried out
-
--- with room enough, record and array do not depend on the response
-module _ (d : Device) (array sent : List ℕ) (pulses : ℕ) (w : Bool) (response other : List ℕ) (room : length sent ≤ length response) (room′ : length sent ≤ length other) where
-  same-verdict : verdictOf d (length array) sent pulses w (length response) ≡ verdictOf d (length array) sent pulses w (length other)
-  unfolding verdictOf hostNumber
-  same-verdict = rw (le-ltb (length response) (length sent) room, le-ltb (length other) (length sent) room′)
-
-  same-device : (v : Verdict) → outcomeOf v d array sent response .device ≡ outcomeOf v d array sent other .device
-  unfolding outcomeOf
-  same-device (Refused k) = refl
-  same-device (Ignored k) = refl
-  same-device Executed = refl
-
-  same-array : (v : Verdict) → outcomeOf v d array sent response .array ≡ outcomeOf v d array sent other .array
-  unfolding outcomeOf
-  same-array (Refused k) = refl
-  same-array (Ignored k) = refl
-  same-array Executed = refl
-
-  pub any-response : (transacted d array sent pulses w response .device ≡ transacted d array sent pulses w other .device) × (transacted d array sent pulses w response .array ≡ transacted d array sent pulses w other .array)
-  unfolding transacted
-  any-response = (
-    ap (λ (v : Verdict). outcomeOf v d array sent response .device) same-verdict ∙ same-device (verdictOf d (length array) sent pulses w (length other)),
-    ap (λ (v : Verdict). outcomeOf v d array sent response .array) same-verdict ∙ same-array (verdictOf d (length array) sent pulses w (length other)),
-  )
 
 -- the transaction under way, were Select to rise
 abbrev pub ending : Taking → Levels → Transaction
@@ -60,16 +34,27 @@ ending t now = record { sent = t .sent; pulses = t .pulses; w = now .w }
 -- what the code carries out
 pub ended-is : (c : Chip) (p : Pins) (now : Levels) (t : Taking) (response : List ℕ) → length (t .sent) ≤ length response
     → endedWith c p now (t .sent) (t .pulses) response ≡ cond (ends p now) (carriedOut c (ending t now)) c
-unfolding endedWith sent
-ended-is c p now t response room =
-    let zeros : List ℕ = replicate (length (t .sent)) 0 in
-    let l : length (t .sent) ≤ length zeros = rw (length-replicate {A = ℕ} (length (t .sent)) 0) (le-refl _) in
-    let e = any-response (c .device) (c .array) (t .sent) (t .pulses) (now .w) response zeros room l in
-    rw (e .0, e .1)
+unfolding endedWith
+ended-is c p now t response room = let e = sent-room c (t .sent) (t .pulses) (now .w) response room in rw (e .1, e .2)
+
+-- and the bits missing in it
+pub missed-is : (c : Chip) (p : Pins) (now : Levels) (t : Taking) (response : List ℕ) → length (t .sent) ≤ length response
+    → missedWith c p now (t .sent) (t .pulses) response ≡ cond (ends p now) (missedBy c (ending t now)) 0
+unfolding missedWith
+missed-is c p now t response room = let e = sent-room c (t .sent) (t .pulses) (now .w) response room in rw (e .0)
 
 pub all-append : (c : Chip) (ts us : List Transaction) → carriedAll c (ts ++ us) ≡ carriedAll (carriedAll c ts) us
 all-append c [] us = refl
 all-append c (t ∷ ts) us = all-append (carriedOut c t) ts us
+
+-- transactions alone are no waits
+pub all-send : (ts : List Transaction) → AllSend (eventsOf ts)
+all-send [] = tt
+all-send (t ∷ ts) = all-send ts
+
+pub events-append : (ts us : List Transaction) → eventsOf (ts ++ us) ≡ eventsOf ts ++ eventsOf us
+events-append [] us = refl
+events-append (t ∷ ts) us = ap (λ (es : List Event). sends (t .sent) (t .pulses) (t .w) ∷ es) (events-append ts us)
 
 -- the chip after one sample more
 pub chip-next : (d : Device) (array samples : List ℕ) (i : ℕ) → i < length samples
@@ -85,6 +70,30 @@ chip-next d array samples i h =
         ≡ cond b (carriedOut (carriedAll (record { device = d; array = array }) (x .found)) (ending (x .taking) now)) (carriedAll (record { device = d; array = array }) (x .found))
     go x now true = all-append (record { device = d; array = array }) (x .found) (ending (x .taking) now ∷ [])
     go x now false = refl
+
+-- the bits missing after one sample more
+pub missed-next : (d : Device) (array samples : List ℕ) (i : ℕ) → i < length samples
+    → missedIn d array (take (i + 1) samples)
+    ≡ missedIn d array (take i samples) + cond (ends (seen (take i samples) .pins) (levelsOf (getD samples i 0))) (missedBy (chipAfter d array (take i samples)) (ending (seen (take i samples) .taking) (levelsOf (getD samples i 0)))) 0
+unfolding missedIn chipAfter step nextFound
+missed-next d array samples i h =
+    ap (λ (x : Seen). missed (eventsOf (x .found)) c) (seen-next samples i h)
+    ∙ go (seen (take i samples)) (levelsOf (getD samples i 0)) (ends (seen (take i samples) .pins) (levelsOf (getD samples i 0)))
+  where
+    c : Chip
+    c = record { device = d; array = array }
+
+    go : (x : Seen) (now : Levels) (b : Bool)
+        → missed (eventsOf (cond b (x .found ++ (ending (x .taking) now ∷ [])) (x .found))) c ≡ missed (eventsOf (x .found)) c + cond b (missedBy (carriedAll c (x .found)) (ending (x .taking) now)) 0
+    go x now true =
+        ap (λ (es : List Event). missed es c) (events-append (x .found) (ending (x .taking) now ∷ []))
+        ∙ (missed-append (eventsOf (x .found)) (eventsOf (ending (x .taking) now ∷ [])) c ∙ ap (λ (n : ℕ). missed (eventsOf (x .found)) c + n) (add-zero (missedBy (carriedAll c (x .found)) (ending (x .taking) now))))
+    go x now false = sym (add-zero (missed (eventsOf (x .found)) c))
+
+-- they are 2,048 at the most
+pub missed-most : (d : Device) (array samples : List ℕ) → missedIn d array samples ≤ mostMissing
+unfolding missedIn
+missed-most d array samples = missed-few (eventsOf (seen samples .found)) (record { device = d; array = array }) (all-send (seen samples .found))
 
 ends-changes : (a b h : Bool) → a && not b || not a && b ≡ false → not a && b && h ≡ false
 ends-changes true true h e = refl

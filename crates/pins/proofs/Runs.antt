@@ -1,6 +1,6 @@
 -- What a run answers, and that its promise admits one outcome only.
 -- Assumes nothing.
-use mathlib.Core.Path.{_≡_, refl, sym, _∙_}
+use mathlib.Core.Path.{_≡_, refl, sym, ap, _∙_}
 use mathlib.Core.Bool.{Bool, true, false, _||_, false≢true}
 use mathlib.Core.List.{List, [], _∷_}
 use mathlib.Core.Logic.{_⊎_, inl, inr, ⊎-elim}
@@ -12,11 +12,12 @@ use Rattle.slices.specs.Changed.{mapAt, window}
 use Rattle.slices.proofs.Choices.{past}
 use Rattle.parts.specs.Parts.{figuresOf}
 use Rattle.device.specs.declared.Device.{Device}
-use Rattle.device.specs.declared.Checked.{Checked}
 use Rattle.device.specs.Device.{sound, onZero}
-use Rattle.device.proofs.Outcomes.{same-checked}
+use Rattle.chip.specs.declared.Done.{Done}
+use Rattle.chip.specs.Outcome.{bare}
+use Rattle.pins.specs.declared.Tally.{Tally}
 use Rattle.pins.specs.Pins.{levelsOf, nextTaking, Seen, atRest, step, seenFrom, seen, oddSamples, tooLong}
-use Rattle.pins.specs.Run.{chipAfter, outputAt, runAnswer, Ran}
+use Rattle.pins.specs.Run.{chipAfter, missedIn, outputAt, runAnswer, answerOf, Ran}
 use Rattle.pins.specs.Counted.{CarriedAll}
 
 -- no refusal: every test passed
@@ -89,23 +90,28 @@ kept zero x y n = absurd (n refl)
 kept (suc k) x y n = refl
 
 -- refused: nothing changes
-pub refused : (d : Device) (array samples output : List ℕ) (k : ℕ) → k ≡ runAnswer d (length array) samples (length output) → (k ≡ 0 → ⊥) → {r : Checked} → r .answer ≡ k → r .device ≡ d
+pub refused : (d : Device) (array samples output : List ℕ) (k : ℕ) → k ≡ runAnswer d (length array) samples (length output) → (k ≡ 0 → ⊥) → {r : Done} → r .answer ≡ bare k → r .device ≡ d
     → Ran d array samples output r array output
+unfolding answerOf
 refused d array samples output k e n a m =
     let z : runAnswer d (length array) samples (length output) ≡ 0 → ⊥ = λ w. n (e ∙ w) in
     record {
-      answer = a ∙ e;
+      answer = a ∙ (ap (λ (n : ℕ). record { number = k; first = 0; count = 0; missing = n }) (kept k (missedIn d array samples) 0 n) ∙ ap (λ (j : ℕ). answerOf j d array samples) e);
       device = m ∙ kept (runAnswer d (length array) samples (length output)) (chipAfter d array samples .device) d z;
       memory = kept (runAnswer d (length array) samples (length output)) (chipAfter d array samples .array) array z;
       shown = kept (runAnswer d (length array) samples (length output)) (mapAt (window 0 (length samples) (outputAt d array samples)) output) output z;
     }
 
 -- not refused
-pub carried : (d : Device) (array samples output : List ℕ) → runAnswer d (length array) samples (length output) ≡ 0 → {r : Checked} {array′ output′ : List ℕ} → r .answer ≡ 0
-    → CarriedAll d array samples output (r .device) array′ output′ → Ran d array samples output r array′ output′
-carried d array samples output e a c = record { answer = a ∙ sym e; device = rw e (c .device); memory = rw e (c .memory); shown = rw e (c .shown) }
+pub carried : (d : Device) (array samples output : List ℕ) → runAnswer d (length array) samples (length output) ≡ 0 → {r : Tally} {array′ output′ : List ℕ} → CarriedAll d array samples output r array′ output′
+    → Ran d array samples output (record { answer = record { number = 0; first = 0; count = 0; missing = r .missing }; device = r .device }) array′ output′
+unfolding answerOf
+carried d array samples output e c = record { answer = rw (e, c .missing); device = rw e (c .device); memory = rw e (c .memory); shown = rw e (c .shown) }
+
+same-done : {r s : Done} → r .answer ≡ s .answer → r .device ≡ s .device → r ≡ s
+same-done {r} {s} a d = λ j. record { answer = a j; device = d j }
 
 -- the promise admits one outcome only
-pub one-outcome : {d : Device} {array samples output : List ℕ} {r s : Checked} {array′ array″ output′ output″ : List ℕ}
+pub one-outcome : {d : Device} {array samples output : List ℕ} {r s : Done} {array′ array″ output′ output″ : List ℕ}
     → Ran d array samples output r array′ output′ → Ran d array samples output s array″ output″ → (r ≡ s) × (array′ ≡ array″) × (output′ ≡ output″)
-one-outcome p q = (same-checked (p .answer ∙ sym (q .answer)) (p .device ∙ sym (q .device)), p .memory ∙ sym (q .memory), p .shown ∙ sym (q .shown))
+one-outcome p q = (same-done (p .answer ∙ sym (q .answer)) (p .device ∙ sym (q .device)), p .memory ∙ sym (q .memory), p .shown ∙ sym (q .shown))

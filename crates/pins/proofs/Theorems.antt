@@ -14,9 +14,11 @@ use Rattle.slices.specs.Changed.{mapAt, window}
 use Rattle.slices.proofs.Choices.{cond-ind, zero-ind}
 use Rattle.slices.proofs.Maps.{getD-map, length-map}
 use Rattle.slices.proofs.Windows.{window-in, window-above}
+use Rattle.memory.specs.Missing.{mostMissing}
 use Rattle.device.specs.declared.Device.{Device}
-use Rattle.device.specs.declared.Checked.{Checked}
 use Rattle.device.specs.Device.{sound}
+use Rattle.chip.specs.declared.Answer.{Answer}
+use Rattle.chip.specs.declared.Done.{Done}
 use Rattle.chip.specs.Answers.{hostNumber}
 use Rattle.chip.specs.Outcome.{transacted}
 use Rattle.chip.specs.Events.{Good, sends}
@@ -24,16 +26,17 @@ use Rattle.chip.proofs.Events.{after-sound, after-length, after-good, no-refusa
 use Rattle.chip.proofs.Lines.{LineIs, line-is-driven}
 use Rattle.pins.specs.declared.levels.Levels.{Levels}
 use Rattle.pins.specs.Pins.{levelsOf, Pins, ends, Transaction, anew, nextTaking, nextFound, Seen, atRest, step, seenFrom, seen, tooLong}
-use Rattle.pins.specs.Run.{Chip, carriedOut, carriedAll, chipAfter, outputAfter, outputAt, runAnswer, Ran}
+use Rattle.pins.specs.Run.{Chip, carriedOut, carriedAll, chipAfter, outputAfter, outputAt, runAnswer, answerOf, Ran}
 use Rattle.pins.proofs.Seen.{seen-ind, from-append, few-next, neither}
-use Rattle.pins.proofs.Carried.{ending}
+use Rattle.pins.proofs.Carried.{ending, missed-most}
 use Rattle.pins.proofs.Runs.{accepted}
 
 -- ---- a run that is not refused
 
-module _ {d : Device} {array samples output : List ℕ} {r : Checked} {array′ output′ : List ℕ} (ran : Ran d array samples output r array′ output′) (fine : r .answer ≡ 0) where
+module _ {d : Device} {array samples output : List ℕ} {r : Done} {array′ output′ : List ℕ} (ran : Ran d array samples output r array′ output′) (fine : r .answer .number ≡ 0) where
   answers : runAnswer d (length array) samples (length output) ≡ 0
-  answers = sym (ran .answer) ∙ fine
+  unfolding answerOf
+  answers = sym (ap (λ (a : Answer). a .number) (ran .answer)) ∙ fine
 
   -- its record and array are those of the found transactions given singly, in order
   pub run-carries : (r .device ≡ carriedAll (record { device = d; array = array }) (seen samples .found) .device) × (array′ ≡ carriedAll (record { device = d; array = array }) (seen samples .found) .array)
@@ -57,8 +60,8 @@ module _ {d : Device} {array samples output : List ℕ} {r : Checked} {array′ 
       ∙ window-above 0 (length samples) (outputAt d array samples) i (getD output i 0) le
 
 -- no output byte depends on a later sample: two runs that are not refused and agree on record, array and the first k samples agree on the first k output bytes
-pub no-later : {d : Device} {array : List ℕ} {samples other output output₂ : List ℕ} {r s : Checked} {array′ array″ output′ output″ : List ℕ} (k : ℕ)
-    → Ran d array samples output r array′ output′ → r .answer ≡ 0 → Ran d array other output₂ s array″ output″ → s .answer ≡ 0
+pub no-later : {d : Device} {array : List ℕ} {samples other output output₂ : List ℕ} {r s : Done} {array′ array″ output′ output″ : List ℕ} (k : ℕ)
+    → Ran d array samples output r array′ output′ → r .answer .number ≡ 0 → Ran d array other output₂ s array″ output″ → s .answer .number ≡ 0
     → k ≤ length samples → k ≤ length other → take k samples ≡ take k other → (i : ℕ) → i < k → getD output′ i 0 ≡ getD output″ i 0
 no-later {d} {array} {samples} {other} k p z q y l m e i lt =
     run-shows p z i (omega arith)
@@ -81,13 +84,18 @@ all-length : (c : Chip) (ts : List Transaction) → length (carriedAll c ts .arr
 all-length c [] = refl
 all-length c (t ∷ ts) = all-length (carriedOut c t) ts ∙ one-length c t
 
-module _ {d : Device} {array samples output : List ℕ} {r : Checked} {array′ output′ : List ℕ} (ran : Ran d array samples output r array′ output′) where
+module _ {d : Device} {array samples output : List ℕ} {r : Done} {array′ output′ : List ℕ} (ran : Ran d array samples output r array′ output′) where
   -- a sound record stays sound, refused or not
   pub run-sound : sound d ≡ true → sound (r .device) ≡ true
   unfolding chipAfter
   run-sound s =
       rw (ran .device)
       (zero-ind (λ (x : Device). sound x ≡ true) (runAnswer d (length array) samples (length output)) (all-sound (record { device = d; array = array }) (seen samples .found) s) s)
+
+  -- at most 2,048 bits are missing, refused or not
+  pub run-few : r .answer .missing ≤ mostMissing
+  unfolding answerOf
+  run-few = rw (ran .answer) (zero-ind (λ (n : ℕ). n ≤ mostMissing) (runAnswer d (length array) samples (length output)) (missed-most d array samples) (lit≤ tt))
 
   -- array and output keep their lengths
   pub run-lengths : (length array′ ≡ length array) × (length output′ ≡ length output)
@@ -150,10 +158,10 @@ all-taken c (t ∷ ts) w f = (
   all-taken (carriedOut c t) ts (after-good (sends (t .sent) (t .pulses) (t .w)) c w) (f .1),
 )
 
-pub run-taken : {d : Device} {array samples output : List ℕ} {r : Checked} {array′ output′ : List ℕ} → Ran d array samples output r array′ output′ → r .answer ≡ 0
+pub run-taken : {d : Device} {array samples output : List ℕ} {r : Done} {array′ output′ : List ℕ} → Ran d array samples output r array′ output′ → r .answer .number ≡ 0
     → AllTaken (record { device = d; array = array }) (seen samples .found)
 run-taken {d} {array} {samples} {output} ran fine =
-    let a = accepted d (length array) samples (length output) (sym (ran .answer) ∙ fine) in
+    let a = accepted d (length array) samples (length output) (answers ran fine) in
     all-taken (record { device = d; array = array }) (seen samples .found) (record { sound = a .sound; whole = a .whole }) (found-fit samples (a .short))
 
 -- ---- thrown away and unfinished

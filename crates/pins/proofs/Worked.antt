@@ -8,27 +8,29 @@ use native.Mathlib.Numerals.{add-one}
 use native.Mathlib.Omega.{arith}
 use borrow.Author.Tests.{ltb-true, ltb-false}
 use lib.Dec.{T, ltb}
+use lib.Count.{onesIn, ones}
 use lib.ListN.{length, getD, take, replicate, length-replicate}
 use Rattle.slices.specs.Changed.{mapAt, window, sumAt}
 use Rattle.slices.proofs.Maps.{map-is}
 use Rattle.slices.proofs.Windows.{window-in, window-above}
 use Rattle.memory.specs.Memory as memory-is
+use Rattle.memory.specs.Missing.{missingAt, missing, pageOf}
 use Rattle.parts.specs.Parts.{figuresOf}
 use Rattle.parts.specs.Protected.{protectedOf}
 use Rattle.device.specs.declared.Device.{Device}
-use Rattle.device.specs.declared.Checked.{Checked}
 use Rattle.device.specs.Device.{sound, onZero, statusByte, moded, latched, settled, running, latchAt}
 use Rattle.chip.specs.Table.{rowOf, addressOf}
 use Rattle.chip.specs.Answers.{hostNumber, inProtected, asNeeded, chipNumber, decided, verdictOf}
-use Rattle.chip.specs.Line.{byRow, heard, heardRow, driven}
+use Rattle.chip.specs.Line.{byRow, heard, heardRow, driven, lined}
 use Rattle.device.specs.Cycles.{noSlots, touched}
-use Rattle.chip.specs.Change.{cycleOf, changed, bpIn, turned}
+use Rattle.chip.specs.Change.{cycleOf, changed, missingOf, bpIn, turned}
+use Rattle.chip.specs.declared.Done.{Done}
 use Rattle.chip.specs.Outcome.{outcomeOf, transacted}
 use Rattle.chip.proofs.Rules.{array-length}
 use Rattle.pins.specs.declared.levels.Levels.{Levels}
 use Rattle.pins.specs.Pins.{levelsOf, Pins, rest, onSelect, onClock, onHold, nextPins, changes, ends, takes, moves, Transaction, Taking, anew, shifted, bitTaken, movedOn, clocked, nextTaking, nextFound, Seen, atRest, step, seenFrom, seen, tooLong, oddSamples}
 use Rattle.chip.specs.Events.{sent}
-use Rattle.pins.specs.Run.{Chip, carriedOut, carriedAll, chipAfter, outputOf, outputAfter, outputAt, runAnswer, Ran}
+use Rattle.pins.specs.Run.{Chip, carriedOut, carriedAll, chipAfter, missedIn, outputOf, outputAfter, outputAt, runAnswer, answerOf, Ran}
 use Rattle.pins.specs.Worked.{Case, samplesIn, unwritten, asTold, AllAsTold, cases}
 use Rattle.pins.proofs.Carried.{ending, all-append}
 
@@ -161,27 +163,27 @@ module _ (d : Device) (array samples output : List ℕ) (len : ℕ) (whole : len
 unfoldable computes : Case → Bool
 computes k =
     let samples = samplesIn (k .run) in
-    let start : Chip = record { device = k .device; array = replicate (k .bytes) 0xFF } in
+    let start : Chip = record { device = k .device; array = replicate (k .bytes) (k .was) } in
     let n = runAnswer (k .device) (k .bytes) samples (k .room) in
     let c = chipFrom (k .bytes) start atRest samples in
-    asTold k (record { answer = n; device = onZero n (c .device) (k .device) }) (onZero n (c .array) (start .array)) (onZero n (shownFrom (k .bytes) start atRest samples (unwritten (k .room))) (unwritten (k .room)))
+    asTold k (record { answer = answerOf n (k .device) (start .array) samples; device = onZero n (c .device) (k .device) }) (onZero n (c .array) (start .array)) (onZero n (shownFrom (k .bytes) start atRest samples (unwritten (k .room))) (unwritten (k .room)))
 
 unfoldable allCompute : List Case → Bool
 allCompute [] = true
 allCompute (k ∷ ks) = computes k && allCompute ks
 
 computed : T (allCompute cases)
-unfolding allCompute computes cases shownFrom chipFrom mapAt window sumAt memory-is.blank memory-is.filled memory-is.programmed memory-is.erased figuresOf protectedOf sound statusByte moded latched settled running latchAt rowOf addressOf hostNumber inProtected asNeeded chipNumber decided verdictOf byRow heard heardRow driven noSlots cycleOf touched changed bpIn turned outcomeOf levelsOf rest onSelect onClock onHold nextPins changes ends takes moves anew shifted bitTaken movedOn clocked nextTaking nextFound atRest step seen tooLong oddSamples outputOf runAnswer
+unfolding allCompute computes cases shownFrom chipFrom mapAt window sumAt memory-is.blank memory-is.filled memory-is.programmed memory-is.erased figuresOf protectedOf sound statusByte moded latched settled running latchAt rowOf addressOf hostNumber inProtected asNeeded chipNumber decided verdictOf byRow heard heardRow driven noSlots cycleOf touched changed missingOf missing missingAt pageOf memory-is.reached memory-is.landed ones onesIn bpIn turned outcomeOf transacted sent answerOf missedIn lined levelsOf rest onSelect onClock onHold nextPins changes ends takes moves anew shifted bitTaken movedOn clocked nextTaking nextFound atRest step seen tooLong oddSamples outputOf runAnswer
 computed = tt
 
 -- what the promise admits at a case is what was computed
-told : (k : Case) → T (computes k) → (r : Checked) (array′ output′ : List ℕ) → Ran (k .device) (replicate (k .bytes) 0xFF) (samplesIn (k .run)) (unwritten (k .room)) r array′ output′ → T (asTold k r array′ output′)
+told : (k : Case) → T (computes k) → (r : Done) (array′ output′ : List ℕ) → Ran (k .device) (replicate (k .bytes) (k .was)) (samplesIn (k .run)) (unwritten (k .room)) r array′ output′ → T (asTold k r array′ output′)
 unfolding computes
 told k h r array′ output′ ran =
     let samples = samplesIn (k .run) in
-    let array : List ℕ = replicate (k .bytes) 0xFF in
+    let array : List ℕ = replicate (k .bytes) (k .was) in
     let output = unwritten (k .room) in
-    let whole : length array ≡ k .bytes = length-replicate {A = ℕ} (k .bytes) 0xFF in
+    let whole : length array ≡ k .bytes = length-replicate {A = ℕ} (k .bytes) (k .was) in
     let room : length output ≡ k .room = length-replicate {A = ℕ} (k .room) 9 in
     rw (ran .answer, ran .device, ran .memory, ran .shown, whole, room, ← chip-is (k .device) array samples output (k .bytes) whole, ← shown-is (k .device) array samples output (k .bytes) whole) h
 

@@ -13,7 +13,8 @@ use Rattle.chip.specs.Outcome.{transacted}
 use Rattle.pins.specs.declared.levels.Levels.{Levels}
 use Rattle.pins.specs.declared.underway.Underway.{Underway}
 use Rattle.pins.specs.Pins.{Pins, changes, takes, moves, ends, shifted, Taking}
-use Rattle.pins.specs.Run.{Chip, bitShown, chipAfter, outputAt}
+use Rattle.pins.specs.declared.Tally.{Tally}
+use Rattle.pins.specs.Run.{Chip, bitShown, chipAfter, missedIn, outputAt}
 
 -- ---- the pins
 
@@ -101,13 +102,19 @@ endedWith c p now sent pulses response =
     (record { device = transacted (c .device) (c .array) sent pulses (now .w) response .device; array = transacted (c .device) (c .array) sent pulses (now .w) response .array })
     c
 
+-- the bits missing in it
+unfoldable pub missedWith : Chip → Pins → Levels → List ℕ → ℕ → List ℕ → ℕ
+missedWith c p now sent pulses response = cond (ends p now) (transacted (c .device) (c .array) sent pulses (now .w) response .answer .missing) 0
+
 -- what carrying out one transaction promises
-pub record CarriedOut (c : Chip) (d : Device) (array : List ℕ) : Type 0 where
-  pub device : d ≡ c .device
+pub record CarriedOut (c : Chip) (bits : ℕ) (r : Tally) (array : List ℕ) : Type 0 where
+  pub device : r .device ≡ c .device
   pub memory : array ≡ c .array
+  pub missing : r .missing ≡ bits
 
 -- what a run that is not refused promises
-pub record CarriedAll (d : Device) (array samples output : List ℕ) (d′ : Device) (array′ output′ : List ℕ) : Type 0 where
-  pub device : d′ ≡ chipAfter d array samples .device
+pub record CarriedAll (d : Device) (array samples output : List ℕ) (r : Tally) (array′ output′ : List ℕ) : Type 0 where
+  pub device : r .device ≡ chipAfter d array samples .device
   pub memory : array′ ≡ chipAfter d array samples .array
+  pub missing : r .missing ≡ missedIn d array samples
   pub shown : output′ ≡ mapAt (window 0 (length samples) (outputAt d array samples)) output

@@ -8,9 +8,10 @@ use lib.ListN.{length, take}
 use Rattle.slices.specs.Changed.{mapAt, window}
 use Rattle.parts.specs.Parts.{figuresOf}
 use Rattle.device.specs.declared.Device.{Device}
-use Rattle.device.specs.declared.Checked.{Checked}
 use Rattle.device.specs.Device.{sound, onZero}
 use Rattle.chip.specs.Line.{Driven, silent, drives, driven}
+use Rattle.chip.specs.declared.Answer.{Answer}
+use Rattle.chip.specs.declared.Done.{Done}
 pub use Rattle.chip.specs.Events.{Chip}
 use Rattle.chip.specs.Events as chip
 use Rattle.pins.specs.Pins.{Transaction, Shown, nothing, after, Seen, seen, oddSamples, tooLong}
@@ -33,6 +34,14 @@ carriedAll c ts = chip.run (eventsOf ts) c
 -- the chip after these samples
 unfoldable pub chipAfter : Device → List ℕ → List ℕ → Chip
 chipAfter d array samples = carriedAll (record { device = d; array = array }) (seen samples .found)
+
+-- the bits missing in one transaction
+abbrev pub missedBy : Chip → Transaction → ℕ
+missedBy c t = chip.reply (chip.sends (t .sent) (t .pulses) (t .w)) c .answer .missing
+
+-- the bits missing after these samples: the sum over the transactions carried out
+unfoldable pub missedIn : Device → List ℕ → List ℕ → ℕ
+missedIn d array samples = chip.missed (eventsOf (seen samples .found)) (record { device = d; array = array })
 
 -- ---- the output
 
@@ -70,9 +79,13 @@ runAnswer d array samples output =
     (cond (ltb output (length samples)) 23
     0))))
 
+-- a run's whole answer: its number, nothing driven, and with 0 the bits missing
+unfoldable pub answerOf : ℕ → Device → List ℕ → List ℕ → Answer
+answerOf number d array samples = record { number = number; first = 0; count = 0; missing = onZero number (missedIn d array samples) 0 }
+
 -- what a run promises: only an answer of 0 changes anything; output bytes beyond the samples are untouched
-pub record Ran (d : Device) (array samples output : List ℕ) (r : Checked) (array′ output′ : List ℕ) : Type 0 where
-  pub answer : r .answer ≡ runAnswer d (length array) samples (length output)
+pub record Ran (d : Device) (array samples output : List ℕ) (r : Done) (array′ output′ : List ℕ) : Type 0 where
+  pub answer : r .answer ≡ answerOf (runAnswer d (length array) samples (length output)) d array samples
   pub device : r .device ≡ onZero (runAnswer d (length array) samples (length output)) (chipAfter d array samples .device) d
   pub memory : array′ ≡ onZero (runAnswer d (length array) samples (length output)) (chipAfter d array samples .array) array
   pub shown : output′ ≡ onZero (runAnswer d (length array) samples (length output)) (mapAt (window 0 (length samples) (outputAt d array samples)) output) output

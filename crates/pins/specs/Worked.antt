@@ -5,8 +5,8 @@ use Prim.Native.Nat.{ℕ, suc, _+_, _*_, _-_}
 use lib.Dec.{T, eqb}
 use lib.ListN.{length, getD, replicate}
 use Rattle.device.specs.declared.Device.{Device}
-use Rattle.device.specs.declared.Checked.{Checked}
 use Rattle.device.specs.Device.{statusByte}
+use Rattle.chip.specs.declared.Done.{Done}
 use Rattle.chip.specs.Worked.{same, bench, quick}
 use Rattle.pins.specs.Run.{Ran}
 
@@ -39,13 +39,15 @@ bits bs os = record { samples = clock 24 bs; output = twice os }
 abbrev pub bits-w-low : List ℕ → List ℕ → Stretch
 bits-w-low bs os = record { samples = clock 16 bs; output = twice os }
 
--- a run on an array all FF: its length, the samples, the length of the output; then the answer, the status byte and byte 0 of the array after it
+-- a run on an array of one byte over and over: its length and that byte, the samples, the length of the output; then the answer, the bits missing, the status byte and byte 0 of the array after it
 pub record Case : Type 0 where
   pub device : Device
   pub bytes : ℕ
+  pub was : ℕ
   pub run : List Stretch
   pub room : ℕ
   pub answer : ℕ
+  pub missing : ℕ
   pub status : ℕ
   pub first : ℕ
 
@@ -68,25 +70,29 @@ abbrev pub written : Case → List ℕ
 written k = cond (eqb (k .answer) 0) (outputIn (k .run) ++ unwritten (k .room - length (outputIn (k .run)))) (unwritten (k .room))
 
 -- an outcome is as the case says
-abbrev pub asTold : Case → Checked → List ℕ → List ℕ → Bool
+abbrev pub asTold : Case → Done → List ℕ → List ℕ → Bool
 asTold k r array output =
-    eqb (r .answer) (k .answer) && same output (written k) && eqb (statusByte (r .device)) (k .status) && eqb (getD array 0 0) (k .first)
+    eqb (r .answer .number) (k .answer) && eqb (r .answer .first) 0 && eqb (r .answer .count) 0 && eqb (r .answer .missing) (k .missing) && same output (written k) && eqb (statusByte (r .device)) (k .status) && eqb (getD array 0 0) (k .first)
 
 -- whatever the promise of a run admits at these cases is as they say
 abbrev pub AllAsTold : List Case → Type 0
 AllAsTold [] = Unit
 AllAsTold (k ∷ ks) =
-    ((r : Checked) (array′ output′ : List ℕ) → Ran (k .device) (replicate (k .bytes) 0xFF) (samplesIn (k .run)) (unwritten (k .room)) r array′ output′ → T (asTold k r array′ output′)) × AllAsTold ks
+    ((r : Done) (array′ output′ : List ℕ) → Ran (k .device) (replicate (k .bytes) (k .was)) (samplesIn (k .run)) (unwritten (k .room)) r array′ output′ → T (asTold k r array′ output′)) × AllAsTold ks
 
 -- ---- short forms
 
--- not refused, with room for one byte more
+-- on an array all FF, not refused, no bits missing, with room for one byte more
 abbrev pub leaves : Device → List Stretch → ℕ → ℕ → Case
-leaves d ss status first = record { device = d; bytes = 4096; run = ss; room = suc (length (samplesIn ss)); answer = 0; status = status; first = first }
+leaves d ss status first = record { device = d; bytes = 4096; was = 0xFF; run = ss; room = suc (length (samplesIn ss)); answer = 0; missing = 0; status = status; first = first }
 
 -- the same, byte 0 of the array still FF
 abbrev pub runs : Device → List Stretch → ℕ → Case
 runs d ss status = leaves d ss status 0xFF
+
+-- the same samples a second time
+abbrev pub twice-over : List Stretch → List Stretch
+twice-over ss = ss ++ ss
 
 -- BP 0, SRWD 0, latch reset: status 0000 0000
 abbrev pub plain : Device
@@ -148,6 +154,21 @@ programmed =
     leaves (bench 0 false true)
     (bits (row 0 0 0 0 0 0 1 0) dark ∷ bits zeros dark ∷ bits zeros dark ∷ bits zeros dark ∷ bits (row 0 1 0 1 1 0 1 0) dark ∷ at 25 2 ∷ reads (row 0 0 0 0 0 0 1 1))
     0x03 0x5A
+
+-- a page program of 5A and FF over an array all 0F: two bits of 5A are missing and four of FF. The same once more is ignored, as the chip is busy, and adds nothing
+abbrev pub rewritten : Case
+rewritten =
+    record {
+      device = bench 0 false true;
+      bytes = 4096;
+      was = 0x0F;
+      run = twice-over (bits (row 0 0 0 0 0 0 1 0) dark ∷ bits zeros dark ∷ bits zeros dark ∷ bits zeros dark ∷ bits (row 0 1 0 1 1 0 1 0) dark ∷ bits (row 1 1 1 1 1 1 1 1) dark ∷ at 25 2 ∷ []);
+      room = 2 * (6 * 16 + 1);
+      answer = 0;
+      missing = 6;
+      status = 0x03;
+      first = 0x0A;
+    }
 
 -- a bulk erase of one tick: the latch is reset at once, and no ticks pass
 abbrev pub one-tick : Case
@@ -263,7 +284,7 @@ clock-before-rise = runs marked (half-read (at 24 1 ∷ at 8 2 ∷ at 26 2 ∷ a
 
 -- refused: record, array and output stay; the run begins with a write enable
 abbrev pub refused : Device → ℕ → ℕ → ℕ → ℕ → ℕ → Case
-refused d bytes s room answer status = record { device = d; bytes = bytes; run = wren ∷ at 25 2 ∷ at s 2 ∷ []; room = room; answer = answer; status = status; first = 0xFF }
+refused d bytes s room answer status = record { device = d; bytes = bytes; was = 0xFF; run = wren ∷ at 25 2 ∷ at s 2 ∷ []; room = room; answer = answer; missing = 0; status = status; first = 0xFF }
 
 -- 6 before 2 before 21 before 23, and each of the bits 5 to 7
 abbrev pub refusals : List Case
@@ -278,10 +299,10 @@ refusals =
 
 -- no samples and no room: not refused
 abbrev pub no-samples : Case
-no-samples = record { device = plain; bytes = 4096; run = []; room = 0; answer = 0; status = 0x00; first = 0xFF }
+no-samples = record { device = plain; bytes = 4096; was = 0xFF; run = []; room = 0; answer = 0; missing = 0; status = 0x00; first = 0xFF }
 
 -- all of them
 unfoldable pub cases : List Case
 cases =
-    status-read ∷ enabled ∷ in-order ∷ programmed ∷ one-tick ∷ array-read ∷ further-read ∷ further-pulse ∷ unfinished ∷ first-high ∷ w-high ∷ w-low ∷ held ∷ held-later ∷ fall-undone ∷ rise-undone ∷ held-within ∷ thrown-away
+    status-read ∷ enabled ∷ in-order ∷ programmed ∷ rewritten ∷ one-tick ∷ array-read ∷ further-read ∷ further-pulse ∷ unfinished ∷ first-high ∷ w-high ∷ w-low ∷ held ∷ held-later ∷ fall-undone ∷ rise-undone ∷ held-within ∷ thrown-away
     ∷ still-held ∷ not-yet-held ∷ falls-held ∷ falls-held-later ∷ falls-held-at-once ∷ falls-at-once ∷ rises-at-once ∷ rises-with-clock ∷ clock-with-hold ∷ clock-before-hold ∷ clock-before-rise ∷ no-samples ∷ refusals

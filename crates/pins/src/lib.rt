@@ -6,12 +6,13 @@ ghost use lib.ListN.{length, take};
 ghost use Rattle.chip.specs.Table.{longest};
 ghost use Rattle.pins.specs.Pins.{oddSamples, tooLong};
 ghost use Rattle.pins.specs.Run.{runAnswer, Ran};
-ghost use Rattle.pins.specs.Counted.{pinsOf, nextCount, endedWith, CarriedOut, CarriedAll};
+ghost use Rattle.pins.specs.Counted.{pinsOf, nextCount, endedWith, missedWith, CarriedOut, CarriedAll};
 
 mod levels;
 mod underway;
 
-use device::Checked;
+use chip::Answer;
+use chip::Done;
 use device::Device;
 use levels::Levels;
 use parts::Figures;
@@ -91,6 +92,12 @@ fn run_number(device: Device, array: usize, samples: &[u8], output: usize) -> u8
     slices::when(!device.sound(), 6, x)
 }
 
+// A record after transactions, and the bits missing in them.
+pub struct Tally {
+    pub device: Device,
+    pub missing: u32,
+}
+
 // Carries out the transaction under way, if it ends with this sample; `was` are the levels before it.
 fn carry_out(
     device: Device,
@@ -101,19 +108,24 @@ fn carry_out(
     under: Underway,
     sent: &[u8],
     response: &mut [u8],
-) -> Device
+) -> Tally
     requires { ⌜ under .whole ≤ length (now sent) ⌝ }
-    ensures { λ r. ⌜ CarriedOut (endedWith (record { device = device; array = now (array .entry) }) (pinsOf was holding) levels (take (under .whole) (now (sent .entry))) (under .pulses) (now (response .entry))) r (now (array .exit)) ⌝ }
+    ensures { λ r. ⌜ CarriedOut (endedWith (record { device = device; array = now (array .entry) }) (pinsOf was holding) levels (take (under .whole) (now (sent .entry))) (under .pulses) (now (response .entry))) (missedWith (record { device = device; array = now (array .entry) }) (pinsOf was holding) levels (take (under .whole) (now (sent .entry))) (under .pulses) (now (response .entry))) r (now (array .exit)) ⌝ }
 {
     if was.ends(levels, holding) {
         let n = under.whole;
         let done = chip::transact(device, array, &sent[..n], under.pulses, levels.w, response);
-        return done.device;
+        let answer = done.answer;
+        let device = done.device;
+        return Tally {
+            device,
+            missing: answer.missing,
+        };
     }
-    device
+    Tally { device, missing: 0 }
 }
 
-// Carries out the transactions in order, and writes the output.
+// Carries out the transactions in order, adds up the bits missing, and writes the output.
 fn carry_all(
     device: Device,
     array: &mut [u8],
@@ -121,11 +133,12 @@ fn carry_all(
     output: &mut [u8],
     sent: &mut [u8],
     response: &mut [u8],
-) -> Device
+) -> Tally
     requires { ⌜ (tooLong (now samples) ≡ false) × (length (now samples) ≤ length (now output)) × (longest ≤ length (now sent)) × (longest ≤ length (now response)) ⌝ }
     ensures { λ r. ⌜ CarriedAll device (now (array .entry)) (now (samples .entry)) (now (output .entry)) r (now (array .exit)) (now (output .exit)) ⌝ }
 {
     let mut device = device;
+    let mut missing = 0;
     let mut before = REST;
     let mut holding = false;
     let mut under = Underway::none();
@@ -134,7 +147,9 @@ fn carry_all(
         let was = Levels::of(before);
         let levels = Levels::of(samples[i]);
         if was.changes(levels) {
-            device = carry_out(device, array, was, levels, holding, under, sent, response);
+            let done = carry_out(device, array, was, levels, holding, under, sent, response);
+            device = done.device;
+            missing += done.missing;
             under = Underway::none();
         }
         let held = was.on_select(levels, holding);
@@ -144,25 +159,27 @@ fn carry_all(
         before = samples[i];
         i += 1;
     }
-    device
+    Tally { device, missing }
 }
 
-// A run over samples: the transactions carried out in order, and one output byte for each sample.
-pub fn run(device: Device, array: &mut [u8], samples: &[u8], output: &mut [u8]) -> Checked
+// A run over samples: the transactions carried out in order, the bits missing in them, and one output byte for each sample.
+pub fn run(device: Device, array: &mut [u8], samples: &[u8], output: &mut [u8]) -> Done
     ensures { λ r. ⌜ Ran device (now (array .entry)) (now (samples .entry)) (now (output .entry)) r (now (array .exit)) (now (output .exit)) ⌝ }
 {
     let number = run_number(device, array.len(), samples, output.len());
     if number != 0 {
-        return Checked {
-            answer: number,
-            device,
-        };
+        let answer = Answer::bare(number);
+        return Done { answer, device };
     }
     let mut sent = [0u8; chip::LONGEST];
     let mut response = [0u8; chip::LONGEST];
-    let next = carry_all(device, array, samples, output, &mut sent, &mut response);
-    Checked {
-        answer: 0,
-        device: next,
-    }
+    let all = carry_all(device, array, samples, output, &mut sent, &mut response);
+    let answer = Answer {
+        number: 0,
+        first: 0,
+        count: 0,
+        missing: all.missing,
+    };
+    let device = all.device;
+    Done { answer, device }
 }

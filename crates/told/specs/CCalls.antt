@@ -3,8 +3,11 @@ use mathlib.Core.Path.{_≡_, refl}
 use mathlib.Core.Bool.{true, false}
 use mathlib.Core.List.{List, [], _∷_, map}
 use Prim.Native.Nat.{ℕ}
+use lib.Count.{onesIn, ones}
 use lib.ListN.{replicate}
 use Rattle.slices.specs.Changed.{mapAt, window, sumAt}
+use Rattle.memory.specs.Memory as memory-is
+use Rattle.memory.specs.Missing.{missingAt, missing, pageOf}
 use Rattle.parts.specs.Parts.{figuresOf}
 use Rattle.parts.specs.Protected.{protectedOf}
 use Rattle.device.specs.declared.Device.{Device}
@@ -14,7 +17,7 @@ use Rattle.chip.specs.Table.{rowOf, addressOf}
 use Rattle.chip.specs.Answers.{deliveryAnswer, hostNumber, inProtected, asNeeded, chipNumber, decided, verdictOf}
 use Rattle.chip.specs.Line.{byRow, heard, heardRow, driven, lined, drivingAt, firstOf, countOf}
 use Rattle.device.specs.Cycles.{noSlots, touched}
-use Rattle.chip.specs.Change.{cycleOf, changed, bpIn, turned}
+use Rattle.chip.specs.Change.{cycleOf, changed, missingOf, bpIn, turned}
 use Rattle.chip.specs.Outcome.{outcomeOf, transacted}
 use Rattle.m25p.specs.Calls.{packedAnswer, high, packedBy, transactedC, checkedC, deliveryC}
 
@@ -29,6 +32,10 @@ set-up = packed 1 1 0 0
 -- the number of a transaction call: packed bytes, array length, bytes, further pulses, W, response length
 abbrev pub sent : List ℕ → ℕ → List ℕ → ℕ → ℕ → ℕ → ℕ
 sent bytes array s pulses w response = transactedC bytes (replicate array 0xFF) s pulses w (replicate response 0) .answer .number
+
+-- the 64 bits that a transaction call answers, on an array of one byte over and over
+abbrev pub answer-on : ℕ → List ℕ → List ℕ → ℕ
+answer-on x bytes s = packedAnswer (transactedC bytes (replicate 4096 x) s 0 1 (replicate 8 0) .answer)
 
 -- the packed bytes after an executed transaction call on the whole array
 abbrev pub after : List ℕ → List ℕ → List ℕ
@@ -47,9 +54,12 @@ powered-on bytes = packedBy (checkedC powerUpCall bytes .answer) (checkedC power
 
 -- what the calls answer and write
 pub record Told : Type 0 where
-  -- bits 0 to 7 the number, 8 to 15 first, 16 to 47 count
-  pub bits : packedAnswer (record { number = 0x12; first = 0x05; count = 0x1FFFB }) ≡ 0x1FFFB0512
-  pub nothing : packedAnswer (record { number = 0; first = 0; count = 0 }) ≡ 0
+  -- bits 0 to 7 the number, 8 to 15 first, 16 to 47 count, 48 to 63 the bits missing
+  pub bits : packedAnswer (record { number = 0x12; first = 0x05; count = 0x1FFFB; missing = 0x0345 }) ≡ 0x03450001FFFB0512
+  pub most-bits : packedAnswer (record { number = 0; first = 0; count = 0; missing = 2048 }) ≡ 0x0800000000000000
+  pub nothing : packedAnswer (record { number = 0; first = 0; count = 0; missing = 0 }) ≡ 0
+  -- FF and 0F programmed over 00, and over FF; the same with the latch reset
+  pub missing-bits : answer-on 0x00 set-up (0x02 ∷ 0 ∷ 0 ∷ 0 ∷ 0xFF ∷ 0x0F ∷ []) ∷ answer-on 0xFF set-up (0x02 ∷ 0 ∷ 0 ∷ 0 ∷ 0xFF ∷ 0x0F ∷ []) ∷ answer-on 0x00 (packed 1 0 0 0) (0x02 ∷ 0 ∷ 0 ∷ 0 ∷ 0xFF ∷ 0x0F ∷ []) ∷ [] ≡ 0x000C000000000000 ∷ 0 ∷ 16 ∷ []
   -- W is low for 0, else high
   pub w : map high (0 ∷ 1 ∷ 2 ∷ 256 ∷ 4294967295 ∷ []) ≡ false ∷ true ∷ true ∷ true ∷ true ∷ []
   pub frozen : sent set-up 4096 (0x01 ∷ 0 ∷ []) 0 0 2 ∷ sent set-up 4096 (0x01 ∷ 0 ∷ []) 0 1 2 ∷ sent set-up 4096 (0x01 ∷ 0 ∷ []) 0 256 2 ∷ [] ≡ 18 ∷ 0 ∷ 0 ∷ []
@@ -78,9 +88,11 @@ pub record Told : Type 0 where
 
 -- computed by the checker
 pub told : Told
-unfolding mapAt window sumAt figuresOf protectedOf sound latchAt moded latched settled running waited poweredUp soundAnswer waitCall powerUpCall zeroRecord statusByte delivered packOf fieldsOf formed unpackAnswer unpackOf rowOf addressOf deliveryAnswer hostNumber inProtected asNeeded chipNumber decided verdictOf byRow heard heardRow driven lined drivingAt firstOf countOf noSlots cycleOf touched changed bpIn turned outcomeOf transacted packedAnswer transactedC checkedC deliveryC
+unfolding mapAt window sumAt figuresOf protectedOf sound latchAt moded latched settled running waited poweredUp soundAnswer waitCall powerUpCall zeroRecord statusByte delivered packOf fieldsOf formed unpackAnswer unpackOf rowOf addressOf deliveryAnswer hostNumber inProtected asNeeded chipNumber decided verdictOf byRow heard heardRow driven lined drivingAt firstOf countOf noSlots cycleOf touched changed missingOf missing missingAt pageOf memory-is.reached memory-is.landed ones onesIn bpIn turned outcomeOf transacted packedAnswer transactedC checkedC deliveryC
 told = record {
   bits = refl;
+  most-bits = refl;
+  missing-bits = refl;
   nothing = refl;
   w = refl;
   frozen = refl;

@@ -3,9 +3,11 @@ use mathlib.Core.Path.{_≡_, refl}
 use mathlib.Core.Bool.{true, false}
 use mathlib.Core.List.{List, [], _∷_, _++_}
 use Prim.Native.Nat.{ℕ, zero, suc}
+use lib.Count.{onesIn, ones}
 use lib.ListN.{replicate}
 use Rattle.slices.specs.Changed.{mapAt, window, sumAt}
 use Rattle.memory.specs.Memory as memory-is
+use Rattle.memory.specs.Missing.{missingAt, missing, pageOf}
 use Rattle.parts.specs.Parts.{figuresOf}
 use Rattle.parts.specs.Protected.{protectedOf}
 use Rattle.device.specs.declared.Mode.the-variants.{Deep}
@@ -15,7 +17,7 @@ use Rattle.chip.specs.Table.{rowOf, addressOf}
 use Rattle.chip.specs.Answers.{hostNumber, inProtected, asNeeded, chipNumber, decided, verdictOf}
 use Rattle.chip.specs.Line.{byRow, heard, heardRow, driven, lined, drivingAt, firstOf, countOf}
 use Rattle.device.specs.Cycles.{noSlots, touched}
-use Rattle.chip.specs.Change.{cycleOf, changed, bpIn, turned}
+use Rattle.chip.specs.Change.{cycleOf, changed, missingOf, bpIn, turned}
 use Rattle.chip.specs.Outcome.{Outcome, outcomeOf, transacted, bare}
 use Rattle.chip.specs.Events.{sent}
 use Rattle.chip.specs.Worked.{Step, sends, waits, starts, holds, sees, fresh, record-of, bench, usual, told, answers, reads, status}
@@ -36,7 +38,7 @@ handed d array sent response = transacted d (replicate array 0x11) sent 0 true (
 
 -- a refusal with a number: record, array and response as they came
 abbrev pub refused : ℕ → Device → ℕ → ℕ → Outcome
-refused k d array response = record { answer = record { number = k; first = 0; count = 0 }; device = d; array = replicate array 0x11; response = replicate response 0x55 }
+refused k d array response = record { answer = record { number = k; first = 0; count = 0; missing = 0 }; device = d; array = replicate array 0x11; response = replicate response 0x55 }
 
 -- what the calls answer and hand back
 pub record Calls : Type 0 where
@@ -47,7 +49,7 @@ pub record Calls : Type 0 where
   -- RDID: 00 00 0C from byte 1, then 00; with one byte nothing
   pub rdid : Seen usual (reads (0x9F ∷ 0 ∷ 0 ∷ 0 ∷ 0 ∷ 0 ∷ []) 1 (0x00 ∷ 0x00 ∷ 0x0C ∷ 0x00 ∷ 0x00 ∷ []) ∷ answers (0x9F ∷ []) 0 ∷ status 0x02 ∷ [])
   -- RDSR: the status byte from byte 1, repeated; with one byte nothing; with further pulses the whole bytes
-  pub rdsr : Seen (bench 2 true true) (reads (0x05 ∷ 0 ∷ 0 ∷ 0 ∷ []) 1 (0x8A ∷ 0x8A ∷ 0x8A ∷ []) ∷ answers (0x05 ∷ []) 0 ∷ sends true 7 (0x05 ∷ 0 ∷ []) (record { number = 0; first = 1; count = 1 }) (0xFF ∷ 0x8A ∷ []) ∷ [])
+  pub rdsr : Seen (bench 2 true true) (reads (0x05 ∷ 0 ∷ 0 ∷ 0 ∷ []) 1 (0x8A ∷ 0x8A ∷ 0x8A ∷ []) ∷ answers (0x05 ∷ []) 0 ∷ sends true 7 (0x05 ∷ 0 ∷ []) (record { number = 0; first = 1; count = 1; missing = 0 }) (0xFF ∷ 0x8A ∷ []) ∷ [])
   -- WRSR: two ticks; SRWD and BP count at once
   pub wrsr : Seen usual (answers (0x01 ∷ 0x84 ∷ []) 0 ∷ cycle 2 0x87 0x85 0x84)
   -- WRSR: bits 6 to 4, 1 and 0 are ignored
@@ -86,7 +88,7 @@ pub record Calls : Type 0 where
 
 -- computed by the checker
 pub calls : Calls
-unfolding sees sent mapAt window sumAt memory-is.blank memory-is.filled memory-is.programmed memory-is.erased figuresOf protectedOf waitCall powerUpCall soundAnswer waited poweredUp sound statusByte moded latched settled running latchAt rowOf addressOf hostNumber inProtected asNeeded chipNumber decided verdictOf byRow heard heardRow driven lined drivingAt firstOf countOf noSlots cycleOf touched changed bpIn turned outcomeOf transacted
+unfolding sees sent mapAt window sumAt memory-is.blank memory-is.filled memory-is.programmed memory-is.erased figuresOf protectedOf waitCall powerUpCall soundAnswer waited poweredUp sound statusByte moded latched settled running latchAt rowOf addressOf hostNumber inProtected asNeeded chipNumber decided verdictOf byRow heard heardRow driven lined drivingAt firstOf countOf noSlots cycleOf touched changed missingOf missing missingAt pageOf memory-is.reached memory-is.landed ones onesIn bpIn turned outcomeOf transacted
 calls = record {
   wren = refl;
   wrdi = refl;

@@ -133,7 +133,10 @@ impl fmt::Display for Answer {
 
 impl std::error::Error for Answer {}
 
-/// The 64 bits that a call returns: the answer, and for a transaction what was driven.
+/// The most bits that can be missing: those of a page.
+const MOST_MISSING: u32 = 2_048;
+
+/// The 64 bits that a call returns: the answer, for a transaction what was driven, and the bits missing.
 #[derive(Clone, Copy, Debug, PartialEq, Eq)]
 pub struct Reply(u64);
 
@@ -151,11 +154,14 @@ impl Reply {
     ///
     /// # Panics
     ///
-    /// Where the number is not in the table or one of the bits 48 to 63 is set: the library is another than
-    /// this crate was written for.
+    /// Where the number is not in the table, more than 2,048 bits are missing, or some are though the answer
+    /// is not 0: the library is another than this crate was written for.
     pub fn answer(self) -> Answer {
-        assert_eq!(self.0 >> 48, 0, "bits 48 to 63 of an answer are zero");
-        Answer::numbered(self.0 as u8).expect("an answer number of the table")
+        let answer = Answer::numbered(self.0 as u8).expect("an answer number of the table");
+        let most = if answer == Answer::Executed { MOST_MISSING } else { 0 };
+        let missing = self.missing();
+        assert!(missing <= most, "{missing} bits missing, {answer:?}: this is another library");
+        answer
     }
 
     /// The first driven position.
@@ -166,5 +172,11 @@ impl Reply {
     /// The driven count.
     pub const fn count(self) -> usize {
         (self.0 >> 16) as u32 as usize
+    }
+
+    /// The bits missing: how many a page program wanted 1 that were 0 in the array. Above 0, an erase should
+    /// have come first.
+    pub const fn missing(self) -> u32 {
+        (self.0 >> 48) as u32
     }
 }

@@ -13,7 +13,8 @@ pub fn deliver(record: &mut [u8], part: u32, array: &mut [u8], durations: Durati
 
 /// One transaction: `sent` is shifted in, then come `pulses` further clock pulses, and W is low for 0 as
 /// Chip Select rises, else high. Byte i of the response is what the chip drove during byte i, FF where it
-/// drove nothing; bytes behind what is sent stay. Answers 8, 6, 2, 3, 4, 5, then those of the chip.
+/// drove nothing; bytes behind what is sent stay. A page program tells the [bits missing](Reply::missing).
+/// Answers 8, 6, 2, 3, 4, 5, then those of the chip.
 pub fn transact(
     record: &mut [u8],
     array: &mut [u8],
@@ -36,7 +37,8 @@ pub fn power_up(record: &mut [u8]) -> Reply {
 }
 
 /// A run of raw pins, one byte for each sample (see [`pins`](crate::pins)): the transactions in it are
-/// carried out in order, and the output gets one byte for each sample. Answers 8, 6, 2, 21, 22, 23.
+/// carried out in order, and the output gets one byte for each sample. The bits missing are the sum over the
+/// transactions. Answers 8, 6, 2, 21, 22, 23.
 pub fn pins(record: &mut [u8], array: &mut [u8], samples: &[u8], output: &mut [u8]) -> Reply {
     Reply::new(library::pins(record, array, samples, output))
 }

@@ -23,13 +23,26 @@ pub struct Response {
     pub answer: Answer,
     /// One byte for each byte sent: what the chip drove, FF where it drove nothing.
     pub line: Vec<u8>,
+    /// How many bits a page program wanted 1 that were 0 in the array, 0 to 2,048. Above 0, an erase should
+    /// have come first. It is 0 for every other instruction, and where nothing was executed.
+    pub missing: u32,
     driven: Range<usize>,
+}
+
+/// What a run of raw pins showed.
+#[derive(Clone, Debug, PartialEq, Eq)]
+pub struct Run {
+    /// One byte for each sample: the output after it, see [`pins`](crate::pins).
+    pub output: Vec<u8>,
+    /// The bits missing, summed over the transactions carried out, see [`Response::missing`]. A run executes
+    /// at most one program, so they are at most 2,048.
+    pub missing: u32,
 }
 
 impl Response {
     fn new(reply: Reply, line: Vec<u8>) -> Response {
         let driven = reply.first()..reply.first() + reply.count();
-        Response { answer: reply.answer(), line, driven }
+        Response { answer: reply.answer(), line, missing: reply.missing(), driven }
     }
 
     /// The bytes of the line that the chip drove.
@@ -64,10 +77,10 @@ impl Chip {
 
     /// A run of raw pins: one output byte for each sample, see [`pins`](crate::pins). Refused with
     /// [`Answer::SampleBits`] or [`Answer::PinsLength`].
-    pub fn pins(&mut self, samples: &[u8]) -> Result<Vec<u8>, Answer> {
+    pub fn pins(&mut self, samples: &[u8]) -> Result<Run, Answer> {
         let mut output = vec![0; samples.len()];
         let reply = calls::pins(&mut self.record, &mut self.array, samples, &mut output);
-        reply.answer().executed().map(|()| output)
+        reply.answer().executed().map(|()| Run { output, missing: reply.missing() })
     }
 
     /// Lets ticks pass; a cycle with no more ticks left ends. In its last tick the latch is reset already.

@@ -22,6 +22,11 @@
 //!     chip.transact(&program, 0, true).executed()?;
 //!     chip.wait(Durations::default().program);
 //!     assert_eq!(chip.array()[0x10], 0x5A);
+//!
+//!     // FF over 5A: four bits are wanted 1 and stay 0, as no erase came first.
+//!     chip.transact(&[0x06], 0, true).executed()?;
+//!     let rewrite = chip.transact(&[0x02, 0x00, 0x00, 0x10, 0xFF], 0, true).executed()?;
+//!     assert_eq!((rewrite.missing, chip.array()[0x10]), (4, 0x5A));
 //!     Ok(())
 //! }
 //! ```
@@ -57,7 +62,7 @@ mod kit;
 
 pub use answer::{Answer, Reply};
 pub use buffer::Buffer;
-pub use chip::{Chip, Response};
+pub use chip::{Chip, Response, Run};
 pub use durations::Durations;
 pub use part::{Part, UnknownPart};
 

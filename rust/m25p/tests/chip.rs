@@ -1,9 +1,9 @@
-//! The chip that owns its buffers: refused deliveries, a short life of an M25P40 on libm25p.a, and what parts and
-//! answers are called.
+//! The chip that owns its buffers: refused deliveries, a short life of an M25P40 on libm25p.a, missing erases, and
+//! what parts and answers are called.
 
 use std::error::Error;
 
-use m25p::{calls, pins, Answer, Buffer, Chip, Durations, Part, RECORD_BYTES};
+use m25p::{calls, pins, Answer, Buffer, Chip, Durations, Part, Run, RECORD_BYTES};
 
 fn executed(chip: &mut Chip, sent: &[u8]) -> Vec<u8> {
     let response = chip.transact(sent, 0, true);
@@ -42,6 +42,49 @@ fn program_erase_and_power() {
     assert_eq!(chip.part(), Part::M25p40);
 }
 
+/// Write enable and a program of these bytes in page 1, which is over afterwards: the bits missing.
+fn missing(chip: &mut Chip, data: &[u8]) -> u32 {
+    executed(chip, &[0x06]);
+    let program = chip.transact(&[&[0x02, 0x00, 0x01, 0xFE], data].concat(), 0, true);
+    assert_eq!(program.answer, Answer::Executed);
+    chip.wait(Durations::default().program);
+    program.missing
+}
+
+/// A rewrite in place is counted, where data went and nowhere else; after an erase it is not.
+#[test]
+fn missing_erase() {
+    let mut chip = Chip::deliver(Part::M25p10a, Durations::default()).unwrap();
+    assert_eq!(missing(&mut chip, &[0xFF, 0x0F, 0x00, 0x00]), 0, "the page is blank");
+    assert_eq!(missing(&mut chip, &[0xFF]), 0, "FF over FF");
+    assert_eq!(missing(&mut chip, &[0xFF, 0xAA, 0xFF, 0x01]), 2 + 8 + 1);
+    assert_eq!(missing(&mut chip, &[0x12, 0x02, 0x00, 0x00]), 0, "ones only where ones are");
+    assert_eq!(missing(&mut chip, &[[0x00; 256], [0xFF; 256]].concat()), 6 + 7 + 8 + 8);
+    executed(&mut chip, &[0x06]);
+    assert_eq!(chip.transact(&[0xD8, 0x00, 0x01, 0x00], 0, true).missing, 0);
+    chip.wait(Durations::default().sector_erase);
+    assert_eq!(missing(&mut chip, &[0xFF, 0xAA, 0xFF, 0x01]), 0, "after an erase");
+}
+
+/// The samples of a transaction with the clock low in between.
+fn clocked(sent: &[u8]) -> Vec<u8> {
+    let low = pins::REST & !pins::SELECT;
+    let bits = sent.iter().flat_map(|byte| (0..8).rev().map(move |bit| byte >> bit & 1));
+    let pulses =
+        bits.flat_map(|bit| [low | (bit * pins::DATA), low | (bit * pins::DATA) | pins::CLOCK]);
+    [low].into_iter().chain(pulses).chain([low, pins::REST]).collect()
+}
+
+/// Raw pins hand up the bits missing, too.
+#[test]
+fn missing_erase_over_pins() {
+    let mut chip = Chip::deliver(Part::Bench, Durations::default()).unwrap();
+    chip.array_mut()[..3].fill(0x00);
+    let program = [clocked(&[0x06]), clocked(&[0x02, 0, 0, 0, 0xFF, 0xFF, 0xFF, 0xFF])].concat();
+    let run = chip.pins(&[program, clocked(&[0x05, 0])].concat()).unwrap();
+    assert_eq!((run.missing, chip.array()[0]), (24, 0x00));
+}
+
 #[test]
 fn refused_transactions() {
     let mut chip = Chip::deliver(Part::Bench, Durations::default()).unwrap();
@@ -53,7 +96,8 @@ fn refused_transactions() {
     );
     assert_eq!(chip.transact(&[0x06], 8, true).executed(), Err(Answer::Pulses));
     assert_eq!(chip.pins(&[pins::REST, 0x80]), Err(Answer::SampleBits));
-    assert_eq!(chip.pins(&[pins::REST, pins::HOLD]), Ok(vec![pins::NOT_DRIVEN; 2]));
+    let silent = Run { output: vec![pins::NOT_DRIVEN; 2], missing: 0 };
+    assert_eq!(chip.pins(&[pins::REST, pins::HOLD]), Ok(silent));
     assert_eq!(chip, before);
 }
 
@@ -71,6 +115,7 @@ fn calls_on_slices() {
     let sent = [0x9F, 0, 0, 0];
     let reply = calls::transact(&mut record, &mut array[1..], &sent, 0, 1, &mut response);
     assert_eq!((reply.answer(), reply.first(), reply.count()), (Answer::Executed, 1, 3));
+    assert_eq!(reply.missing(), 0);
     assert_eq!(response, [0xFF, 0x00, 0x00, 0x0C, 9, 9]);
     assert_eq!(calls::wait(&mut record[1..], 1).answer(), Answer::RecordLength);
     record[5] = 1;

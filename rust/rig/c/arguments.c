@@ -118,24 +118,33 @@ static int right_power_up(const struct call *call)
     return call->answer == 0 && room[0][3] == 0 && room[0][4] == 0 && room[0][8] == 0;
 }
 
-/* A READ of the first byte, then Select high: 40 clock pulses of two samples, with half a pulse around. */
-static void prepare_pins(struct call *call)
+/* A transaction of five bytes from this sample on, then Select high: 40 clock pulses of two samples, with
+ * half a pulse around. The sample behind it. */
+static size_t clocked(size_t at, const uint8_t *sent)
 {
     const uint8_t low = M25P_PIN_W | M25P_PIN_HOLD;
-    size_t at = 0;
-    record(room[0], 0);
     room[2][at++] = low;
     for (int bit = 0; bit < 40; bit++) {
-        uint8_t data = bit == 6 || bit == 7 ? M25P_PIN_DATA : 0;
+        uint8_t data = sent[bit / 8] >> (7 - bit % 8) & 1 ? M25P_PIN_DATA : 0;
         room[2][at++] = low | data;
         room[2][at++] = low | data | M25P_PIN_CLOCK;
     }
     room[2][at++] = low;
     room[2][at++] = M25P_PINS_AT_REST;
+    return at;
+}
+
+/* A READ of the first byte, a program of FF over it, and the READ again. */
+static void prepare_pins(struct call *call)
+{
+    const uint8_t read[5] = {0x03}, program[5] = {0x02, 0, 0, 0, 0xFF};
+    size_t at = clocked(clocked(clocked(0, read), program), read);
+    record(room[0], 0);
     set(call, 4, (const uint64_t[]){28, M25P_M25P10A_BYTES, at, at + 3});
 }
 
-/* The byte is 5A, its bits show from the fall behind the 32nd rise on, and nothing else has changed. */
+/* The byte is 5A, its bits show from the fall behind the 32nd rise on. FF over it misses four bits, and it
+ * stays; the last READ is ignored. */
 static int right_pins(const struct call *call)
 {
     const uint8_t *output = room[3];
@@ -143,7 +152,9 @@ static int right_pins(const struct call *call)
     for (int bit = 0; bit < 8; bit++)
         if (output[65 + 2 * bit] != (0x5A >> (7 - bit) & 1))
             return 0;
-    return call->answer == 0 && output[64] == 2 && output[n - 1] == 2 && output[n] == 0x5C;
+    if (m25p_missing(call->answer) != 4 || call->answer << 16 != 0 || room[1][0] != 0x5A || room[0][4] != 1)
+        return 0;
+    return output[64] == 2 && output[n - 1] == 2 && output[n] == 0x5C;
 }
 
 static void run(struct call *call, int i, int j, int of_pointers)

@@ -1,6 +1,7 @@
 /* boundary.c - the C calls at their limits: empty slices with and without an address, lengths beyond 32
- * bits, full 32-bit numbers, every part. Prints one line for each call: its name, answer number, first and
- * count; of each part one line: the answers of delivery, RDID and RES, and what the two drive. */
+ * bits, full 32-bit numbers, rewrites without an erase, every part. Prints one line for each call: its name,
+ * answer number, first, count and missing bits; of each part one line: the answers of delivery, RDID and
+ * RES, and what the two drive. */
 #define _GNU_SOURCE
 #include <stdio.h>
 #include <string.h>
@@ -20,7 +21,7 @@ static uint8_t *huge;
 
 static void show(const char *name, uint64_t a)
 {
-    printf("%s: %u %u %u\n", name, m25p_answer(a), m25p_first(a), m25p_count(a));
+    printf("%s: %u %u %u %u\n", name, m25p_answer(a), m25p_first(a), m25p_count(a), m25p_missing(a));
 }
 
 static void fresh(void)
@@ -132,6 +133,48 @@ static void pins(void)
     show("short output", probe(samples, 3, response, 2));
 }
 
+/* Write enable, and a program of n bytes of this value; its cycle is over afterwards. */
+static uint64_t program(unsigned address, uint8_t value, size_t n)
+{
+    const uint8_t enable[1] = {0x06};
+    uint64_t answer;
+    send(enable, 1, 0, 1, response, 1);
+    sent[0] = 0x02;
+    sent[2] = (uint8_t)(address >> 8);
+    sent[3] = (uint8_t)address;
+    memset(sent + 4, value, n);
+    answer = send(sent, n + 4, 0, 1, response, n + 4);
+    m25p_wait(record, sizeof record, 3);
+    return answer;
+}
+
+/* Programs over programmed bytes: the bits missing, and none after an erase. */
+static void rewrites(void)
+{
+    const uint8_t enable[1] = {0x06}, erase[4] = {0xD8}, protect[2] = {0x01, 0x0C};
+    printf("rewrites\n");
+    fresh();
+    show("00 in 3 bytes", program(0x1FE, 0x00, 3));
+    show("FF over 00 in 3 bytes", program(0x1FE, 0xFF, 3));
+    show("A5 over 00 in 2 bytes", program(0x1FF, 0xA5, 2));
+    show("FF where no 00 is", program(0x101, 0xFF, 253));
+    show("00 in a page", program(0x100, 0x00, 256));
+    show("FF over 00 in a page", program(0x142, 0xFF, 256));
+    show("FF over 00 in 60000 bytes", program(0x142, 0xFF, 60000));
+    send(enable, 1, 0, 1, response, 1);
+    show("erase", send(erase, 4, 0, 1, response, 4));
+    show("program while busy", send(sent, 60, 0, 1, response, 60));
+    show("wait", m25p_wait(record, sizeof record, 5));
+    show("FF after the erase", program(0x142, 0xFF, 256));
+    program(0x100, 0x00, 1);
+    send(enable, 1, 0, 1, response, 1);
+    show("protect", send(protect, 2, 0, 1, response, 2));
+    show("power-up", m25p_power_up(record, sizeof record));
+    show("FF over 00, protected", program(0x100, 0xFF, 1));
+    show("deliver", m25p_deliver(record, sizeof record, M25P_BENCH, array, sizeof array, 3, 5, 9, 2));
+    show("FF after the delivery", program(0x100, 0xFF, 1));
+}
+
 /* Every part by its name and size in the header: what delivery, RDID and RES answer, and what the two drive. */
 static void parts(void)
 {
@@ -174,6 +217,7 @@ int main(void)
     full_numbers();
     longest();
     pins();
+    rewrites();
     parts();
     sent[0] = 0x05;
     empty("NULL", NULL);

@@ -6,7 +6,8 @@ pub use tally::Tally;
 
 use m25p::{calls, Buffer};
 
-use crate::model::{address, Model, Packed, Paper, Record, Transaction, BE, PARTS, RECORD_BYTES};
+use crate::model::{self, address, Model, Packed, Paper, Record, Transaction};
+use crate::model::{BE, PARTS, RECORD_BYTES};
 use crate::pins_model::{Found, PinsModel};
 use crate::rng::Rng;
 
@@ -44,12 +45,12 @@ pub struct Step {
     pub filled: Vec<Filled>,
 }
 
-/// What the model answers: the 64 bits, and of raw pins what was found and the chip's number to each
+/// What the model answers: the 64 bits, and of raw pins what was found and the chip's answer to each
 /// transaction carried out.
 pub struct Seen {
     word: u64,
     pub found: Vec<Found>,
-    pub chip: Vec<u8>,
+    pub chip: Vec<model::Outcome>,
 }
 
 impl Seen {
@@ -59,6 +60,11 @@ impl Seen {
 
     pub fn answer(&self) -> u8 {
         self.word as u8
+    }
+
+    /// The bits missing.
+    pub fn missing(&self) -> u32 {
+        (self.word >> 48) as u32
     }
 }
 
@@ -127,7 +133,7 @@ impl Side {
             Call::PowerUp => Seen::only(chip.power_up(record).word()),
             Call::Pins { samples } => {
                 let outcome = pins.run(record, array, samples, filled[0]);
-                Seen { word: outcome.answer.into(), found: outcome.found, chip: outcome.chip }
+                Seen { word: outcome.word(), found: outcome.found, chip: outcome.chip }
             }
         }
     }
@@ -167,9 +173,10 @@ impl Pair {
         let before = self.modelled.record.clone();
         self.real.prepare(step);
         self.modelled.prepare(step);
-        let word = self.real.call(step);
+        // The model goes first, so that the tally sees the array from before the call.
         let seen = self.modelled.model_call(step, self.rules);
-        tally.count(step, &seen, &self.modelled.filled);
+        tally.count(step, &seen, &self.modelled.filled, &self.real.array);
+        let word = self.real.call(step);
         self.compare(step, word, &seen, tally.calls)
             .map_err(|difference| format!("{difference}\nat {}", describe(step, &before)))?;
         if self.kept().is_none_or(|record| record.part as usize != self.part) {

@@ -48,6 +48,12 @@ pub const CHIP: &[(&str, &dyn Model)] = named![
     PowerUpKeepsDeep,
     OlderIdentifies,
     NeitherIdentifies,
+    CountsWhereNoDataWent,
+    CountsZerosOverOnes,
+    CountsReplacedBytes,
+    CountsTheFirstByte,
+    SentBlankWantsNothing,
+    CountsWhenProtected,
 ];
 
 /// Changes a packed record that is sound.
@@ -355,6 +361,73 @@ impl Model for PowerUpKeepsDeep {
         let outcome = Paper.power_up(record);
         if deep {
             amend(record, |r| r.mode = Mode::Deep);
+        }
+        outcome
+    }
+}
+
+/// Bits are counted in slots that the data did not reach, too: such a slot is all ones.
+struct CountsWhereNoDataWent;
+
+impl Model for CountsWhereNoDataWent {
+    fn wanted(&self, address: usize, data: &[u8], slot: usize) -> Option<u8> {
+        Paper.wanted(address, data, slot).or(Some(0xFF))
+    }
+}
+
+/// Zeros over ones are counted, the bits that the program changes.
+struct CountsZerosOverOnes;
+
+impl Model for CountsZerosOverOnes {
+    fn unmet(&self, wanted: u8, before: u8, bit: u32) -> bool {
+        Paper.unmet(before, wanted, bit)
+    }
+}
+
+/// Every byte of the data counts, those that a later one replaces too.
+struct CountsReplacedBytes;
+
+impl Model for CountsReplacedBytes {
+    fn missing(&self, array: &[u8], address: usize, data: &[u8]) -> u32 {
+        let page = address / 256 * 256;
+        let byte = |k: usize| Paper.missing(array, page + (address + k) % 256, &data[k..=k]);
+        (0..data.len()).map(byte).sum()
+    }
+}
+
+/// Of several bytes for a slot the first counts.
+struct CountsTheFirstByte;
+
+impl Model for CountsTheFirstByte {
+    fn wanted(&self, address: usize, data: &[u8], slot: usize) -> Option<u8> {
+        Paper.wanted(address, &data[..data.len().min(256)], slot)
+    }
+}
+
+/// An FF that is sent wants nothing.
+struct SentBlankWantsNothing;
+
+impl Model for SentBlankWantsNothing {
+    fn wanted(&self, address: usize, data: &[u8], slot: usize) -> Option<u8> {
+        Paper.wanted(address, data, slot).filter(|wanted| *wanted != 0xFF)
+    }
+}
+
+/// A program in a protected sector is counted all the same.
+struct CountsWhenProtected;
+
+impl Model for CountsWhenProtected {
+    fn transact(
+        &self,
+        record: &mut [u8],
+        array: &mut [u8],
+        t: Transaction,
+        response: &mut [u8],
+    ) -> Outcome {
+        let mut outcome = Paper.transact(record, array, t, response);
+        if outcome.answer == 17 && t.sent[0] == PP {
+            let at = full_address(t.sent) % array.len();
+            outcome.missing = Paper.missing(array, at, &t.sent[4..]);
         }
         outcome
     }

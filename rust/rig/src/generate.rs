@@ -163,6 +163,7 @@ impl Generator {
         let some = match self.rng.below(100) {
             0 => self.rng.below(65_532),
             1..=20 => self.rng.below(700),
+            21..=30 => 0,
             _ => self.rng.below(12),
         };
         let mut n = match code {
@@ -184,7 +185,22 @@ impl Generator {
         if code == WRSR {
             sent[1] = self.rng.byte();
         }
-        self.stretched(std::mem::take(&mut sent), n)
+        let mut sent = self.stretched(std::mem::take(&mut sent), n);
+        if code == PP && self.rng.one_in(3) {
+            self.uneven(&mut sent[n.min(4)..]);
+        }
+        sent
+    }
+
+    /// Data of few ones or of few zeros, or of one byte throughout: over a page that was programmed some of it
+    /// wants bits that are 0, and some wants none.
+    fn uneven(&mut self, data: &mut [u8]) {
+        match self.rng.below(4) {
+            0 => data.fill(0xFF),
+            1 => data.fill(self.rng.pick(&[0x00, 0x01, 0x80])),
+            2 => data.iter_mut().for_each(|byte| *byte |= self.rng.byte() | self.rng.byte()),
+            _ => data.iter_mut().for_each(|byte| *byte &= self.rng.byte() & self.rng.byte()),
+        }
     }
 
     /// The same beginning, cut or filled up to n bytes.

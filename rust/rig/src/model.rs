@@ -32,22 +32,25 @@ pub struct Transaction<'a> {
     pub w: u32,
 }
 
-/// The three numbers of an answer.
+/// The four numbers of an answer.
 #[derive(Clone, Copy, Debug, PartialEq, Eq)]
 pub struct Outcome {
     pub answer: u8,
     pub first: usize,
     pub count: usize,
+    /// How many bits a program wanted 1 that were 0 in the array.
+    pub missing: u32,
 }
 
 impl Outcome {
     pub fn only(answer: u8) -> Outcome {
-        Outcome { answer, first: 0, count: 0 }
+        Outcome { answer, first: 0, count: 0, missing: 0 }
     }
 
     /// The answer as a C call carries it.
     pub fn word(&self) -> u64 {
-        self.answer as u64 | (self.first as u64) << 8 | (self.count as u64) << 16
+        let seen = self.answer as u64 | (self.first as u64) << 8 | (self.count as u64) << 16;
+        seen | (self.missing as u64) << 48
     }
 }
 
@@ -104,7 +107,10 @@ pub trait Model: Sync {
             response[..t.sent.len()].fill(0xFF);
             return Outcome::only(ignored);
         }
-        let outcome = self.drive(&r, array, t.sent, response);
+        let mut outcome = self.drive(&r, array, t.sent, response);
+        if t.sent[0] == PP {
+            outcome.missing = self.missing(array, address(r.figures(), t.sent), &t.sent[4..]);
+        }
         self.change(&mut r, array, t.sent);
         record.copy_from_slice(&r.pack());
         outcome
@@ -331,6 +337,26 @@ pub trait Model: Sync {
     /// A byte of the page after the program: itself and its slot, bit by bit.
     fn programmed(&self, before: u8, slot: u8) -> u8 {
         before & slot
+    }
+
+    /// The bits that the data wants 1 in the addressed page and the array has 0, slot by slot.
+    fn missing(&self, array: &[u8], address: usize, data: &[u8]) -> u32 {
+        let page = &array[address / 256 * 256..][..256];
+        let of_slot = |(slot, before): (usize, &u8)| match self.wanted(address, data, slot) {
+            Some(wanted) => (0..8).filter(|bit| self.unmet(wanted, *before, *bit)).count() as u32,
+            None => 0,
+        };
+        page.iter().enumerate().map(of_slot).sum()
+    }
+
+    /// What the data wants in a slot: the last byte that went there; none where no byte went.
+    fn wanted(&self, address: usize, data: &[u8], slot: usize) -> Option<u8> {
+        (0..data.len()).rev().find(|k| (address + k) % 256 == slot).map(|k| data[k])
+    }
+
+    /// Whether a bit is wanted 1 and is 0.
+    fn unmet(&self, wanted: u8, before: u8, bit: u32) -> bool {
+        wanted >> bit & 1 == 1 && before >> bit & 1 == 0
     }
 }
 

@@ -62,7 +62,10 @@ impl PinsGenerator {
             return self.rng.bytes(n).iter().map(|byte| byte & 0x1F).collect();
         }
         let plans = self.plans(from);
-        match self.rng.below(4) {
+        // A long transaction seldom gets through unless it is clocked cleanly.
+        let long = plans.iter().any(|plan| plan.sent.len() > 256);
+        let kind = if long { 0 } else { self.rng.below(4) };
+        match kind {
             0 => self.clocked(&plans),
             1 => {
                 let clean = self.clocked(&plans);
@@ -84,7 +87,7 @@ impl PinsGenerator {
                     _ => call = self.calls.step(&now).call,
                 }
             };
-            if !self.rng.one_in(30) {
+            if sent.first() != Some(&PP) && !self.rng.one_in(30) {
                 sent.truncate(self.rng.pick(&[6, 12, 30]));
             }
             sent.truncate(700);

@@ -6,7 +6,7 @@ mod walk;
 
 pub use walk::{End, Found, Holding, Pins, Walk, Walking};
 
-use crate::model::{Model, Paper, Record, Transaction, RECORD_BYTES};
+use crate::model::{self, Model, Paper, Record, Transaction, RECORD_BYTES};
 
 pub const SELECT: u8 = 0x01;
 pub const CLOCK: u8 = 0x02;
@@ -23,12 +23,25 @@ pub const NOT_DRIVEN: u8 = 2;
 /// The most whole bytes of a transaction.
 pub const MOST_BYTES: usize = 65_536;
 
-/// What became of a run: its answer number, the transactions found, and the chip's answer number to
-/// each of those that were carried out. A refused run has none.
+/// What became of a run: its answer number, the bits missing, the transactions found, and the chip's answer
+/// to each of those that were carried out. A refused run has none.
 pub struct Outcome {
     pub answer: u8,
+    pub missing: u32,
     pub found: Vec<Found>,
-    pub chip: Vec<u8>,
+    pub chip: Vec<model::Outcome>,
+}
+
+impl Outcome {
+    /// The answer as a C call carries it; nothing counts as driven.
+    pub fn word(&self) -> u64 {
+        model::Outcome { missing: self.missing, ..model::Outcome::only(self.answer) }.word()
+    }
+
+    /// The chip's answer numbers.
+    pub fn numbers(&self) -> Vec<u8> {
+        self.chip.iter().map(|outcome| outcome.answer).collect()
+    }
 }
 
 /// The rules of a run.
@@ -42,7 +55,7 @@ pub trait PinsModel: Walking {
     ) -> Outcome {
         let answer = self.refusal(record, array, samples, output);
         if answer != 0 {
-            return Outcome { answer, found: vec![], chip: vec![] };
+            return Outcome { answer, missing: 0, found: vec![], chip: vec![] };
         }
         let walk = self.walk(samples);
         output[..samples.len()].fill(NOT_DRIVEN);
@@ -52,7 +65,12 @@ pub trait PinsModel: Walking {
             self.show(&walk, found, &now, array, output);
             chip.extend(self.carry_out(found, record, array));
         }
-        Outcome { answer, found: walk.found, chip }
+        Outcome { answer, missing: self.missing_in_all(&chip), found: walk.found, chip }
+    }
+
+    /// The bits missing in a run: those of all its transactions.
+    fn missing_in_all(&self, chip: &[model::Outcome]) -> u32 {
+        chip.iter().map(|outcome| outcome.missing).sum()
     }
 
     /// The number that refuses the run, the first that applies; 0 where it is carried out.
@@ -102,13 +120,18 @@ pub trait PinsModel: Walking {
         byte >> (7 - k) & 1
     }
 
-    /// Carries the transaction out, if Select rose outside a hold; the chip's answer number.
-    fn carry_out(&self, found: &Found, record: &mut [u8], array: &mut [u8]) -> Option<u8> {
+    /// Carries the transaction out, if Select rose outside a hold; the chip's answer.
+    fn carry_out(
+        &self,
+        found: &Found,
+        record: &mut [u8],
+        array: &mut [u8],
+    ) -> Option<model::Outcome> {
         let End::Risen { w } = found.end else { return None };
         let sent = found.sent();
         let mut response = vec![0; sent.len()];
         let t = Transaction { sent: &sent, pulses: found.pulses(), w: u32::from(w) };
-        Some(Paper.transact(record, array, t, &mut response).answer)
+        Some(Paper.transact(record, array, t, &mut response))
     }
 }
 

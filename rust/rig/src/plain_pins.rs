@@ -123,17 +123,17 @@ impl Pins {
     }
 }
 
-/// Carries a run out; the answer number.
-pub fn run(record: &mut [u8], array: &mut [u8], samples: &[u8], output: &mut [u8]) -> u8 {
+/// Carries a run out; the answer number and the bits missing.
+pub fn run(record: &mut [u8], array: &mut [u8], samples: &[u8], output: &mut [u8]) -> (u8, u32) {
     if record.len() != RECORD_BYTES {
-        return 8;
+        return (8, 0);
     }
-    let Some(unpacked) = Record::unpack(record) else { return 6 };
+    let Some(unpacked) = Record::unpack(record) else { return (6, 0) };
     if array.len() != unpacked.figures().bytes {
-        return 2;
+        return (2, 0);
     }
     if samples.iter().fold(0, |all, sample| all | sample) > 0x1F {
-        return 21;
+        return (21, 0);
     }
     let mut longest = Longest::default();
     let mut pins = Pins::at_rest();
@@ -141,10 +141,10 @@ pub fn run(record: &mut [u8], array: &mut [u8], samples: &[u8], output: &mut [u8
         pins.sample(*sample, &mut longest);
     }
     if longest.most / 8 > MOST_BYTES {
-        return 22;
+        return (22, 0);
     }
     if output.len() < samples.len() {
-        return 23;
+        return (23, 0);
     }
     let mut chip = Chip::new(unpacked, array);
     let mut pins = Pins::at_rest();
@@ -153,5 +153,5 @@ pub fn run(record: &mut [u8], array: &mut [u8], samples: &[u8], output: &mut [u8
         *shown = if pins.open() { chip.shown } else { NOT_DRIVEN };
     }
     record.copy_from_slice(&chip.record.pack());
-    0
+    (0, chip.missing)
 }

@@ -34,6 +34,8 @@ program          done
 status           03
 status           00
 read             66 6C 61 73 68 FF
+write enable     done
+rewrite          done, 3 bits missing: erase first
 ";
 
 #[test]
@@ -140,59 +142,76 @@ fn header_in_cpp() {
 }
 
 const EMPTY: &str = "\
-deliver record: 8 0 0
-deliver array: 2 0 0
-deliver both: 8 0 0
-wait record: 8 0 0
-power-up record: 8 0 0
-transact record: 8 0 0
-transact array: 2 0 0
-transact sent: 11 0 0
-transact response: 5 0 0
-transact sent and response: 11 0 0
-transact all: 8 0 0
-pins record: 8 0 0
-pins array: 2 0 0
-pins samples: 0 0 0
-pins output: 23 0 0
-pins samples and output: 0 0 0
-pins all: 8 0 0
+deliver record: 8 0 0 0
+deliver array: 2 0 0 0
+deliver both: 8 0 0 0
+wait record: 8 0 0 0
+power-up record: 8 0 0 0
+transact record: 8 0 0 0
+transact array: 2 0 0 0
+transact sent: 11 0 0 0
+transact response: 5 0 0 0
+transact sent and response: 11 0 0 0
+transact all: 8 0 0 0
+pins record: 8 0 0 0
+pins array: 2 0 0 0
+pins samples: 0 0 0 0
+pins output: 23 0 0 0
+pins samples and output: 0 0 0 0
+pins all: 8 0 0 0
 ";
 
 const LIMITS: &str = "\
 lengths beyond 32 bits
-deliver record: 8 0 0
-deliver array: 2 0 0
-wait record: 8 0 0
-power-up record: 8 0 0
-transact record: 8 0 0
-transact array: 2 0 0
-transact sent: 3 0 0
-transact response: 0 1 3
+deliver record: 8 0 0 0
+deliver array: 2 0 0 0
+wait record: 8 0 0 0
+power-up record: 8 0 0 0
+transact record: 8 0 0 0
+transact array: 2 0 0 0
+transact sent: 3 0 0 0
+transact response: 0 1 3 0
 FF 00 00 0C
-pins record: 8 0 0
-pins array: 2 0 0
-pins output: 0 0 0
+pins record: 8 0 0 0
+pins array: 2 0 0 0
+pins output: 0 0 0 0
 2 2 2
 full numbers
-part 256: 1 0 0
-part 65536: 1 0 0
-program 1000001: 7 0 0
-write status 2^32-1: 7 0 0
-pulses 256: 4 0 0
-pulses 2^31: 4 0 0
-W 0: 18 0 0
-W 256: 0 0 0
-wait 2^32-1: 0 0 0
+part 256: 1 0 0 0
+part 65536: 1 0 0 0
+program 1000001: 7 0 0 0
+write status 2^32-1: 7 0 0 0
+pulses 256: 4 0 0 0
+pulses 2^31: 4 0 0 0
+W 0: 18 0 0 0
+W 256: 0 0 0 0
+wait 2^32-1: 0 0 0 0
 longest transactions
-read 65536: 0 4 65532
-read 65537: 3 0 0
-short response: 5 0 0
-program 65536: 0 0 0
+read 65536: 0 4 65532 0
+read 65537: 3 0 0 0
+short response: 5 0 0 0
+program 65536: 0 0 0 0
 raw pins
-rest: 0 0 0
-bit 7: 21 0 0
-short output: 23 0 0
+rest: 0 0 0 0
+bit 7: 21 0 0 0
+short output: 23 0 0 0
+rewrites
+00 in 3 bytes: 0 0 0 0
+FF over 00 in 3 bytes: 0 0 0 24
+A5 over 00 in 2 bytes: 0 0 0 8
+FF where no 00 is: 0 0 0 0
+00 in a page: 0 0 0 0
+FF over 00 in a page: 0 0 0 2048
+FF over 00 in 60000 bytes: 0 0 0 2048
+erase: 0 0 0 0
+program while busy: 12 0 0 0
+wait: 0 0 0 0
+FF after the erase: 0 0 0 0
+protect: 0 0 0 0
+power-up: 0 0 0 0
+FF over 00, protected: 17 0 0 0
+deliver: 0 0 0 0
+FF after the delivery: 0 0 0 0
 parts
 bench: 0 0 0, 00 00 0C, 0B
 M25P10-A: 0 0 0, 20 20 11, 10
@@ -200,7 +219,7 @@ M25P40: 0 0 0, 20 20 13, 12
 M25P32: 0 0 0, 20 20 16, 15
 M25P128: 0 0 14, 20 20 18, FF
 older M25P10-A: 0 14 0, FF FF FF, 10
-part 6: 1 0 0
+part 6: 1 0 0 0
 ";
 
 #[test]

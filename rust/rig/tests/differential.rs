@@ -47,6 +47,7 @@ fn calls_equal_model() {
         let times = tally.executed[code as usize];
         assert!(times >= 20, "instruction {code:02X} was executed {times} times only");
     }
+    assert_eq!(tally.programs.seldom(20), [""; 0], "programs that came too seldom");
 }
 
 /// With a fault in the model the same comparison finds a difference, each time.

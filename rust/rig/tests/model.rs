@@ -1,5 +1,5 @@
-//! The model on the worked cases K1 to K15, on cycles of one tick, on the latch of a sound busy record and on
-//! the older M25P10-A; and the bench model on the worked example.
+//! The model on the worked cases K1 to K15, on cycles of one tick, on the latch of a sound busy record, on
+//! missing bits and on the older M25P10-A; and the bench model on the worked example.
 
 use rig::bench_model::{self, Line};
 use rig::model::{Mode, Model, Outcome, Packed, Paper, Record, Transaction};
@@ -91,7 +91,7 @@ fn k6_read_rolls_over() {
     let mut chip = case(worked());
     (chip.array[4_095], chip.array[0]) = (0x12, 0x34);
     let outcome = chip.run(&[0x03, 0x00, 0x0F, 0xFF, 0, 0], 0, 1);
-    assert_eq!(outcome, Outcome { answer: 0, first: 4, count: 2 });
+    assert_eq!(outcome, Outcome { answer: 0, first: 4, count: 2, missing: 0 });
     assert_eq!(chip.response, [0xFF, 0xFF, 0xFF, 0xFF, 0x12, 0x34]);
 }
 
@@ -156,6 +156,58 @@ fn k14_no_signature() {
 fn k15_latch_before_protection() {
     let mut chip = case(Record { latch: false, bp: 3, ..worked() });
     assert_eq!(chip.answer(&[0xD8, 0, 0, 0]), 16);
+}
+
+/// The bits missing for a program from this place on, in a page of 00.
+fn missing_over_zeros(at: u8, data: &[u8]) -> u32 {
+    let mut chip = case(worked());
+    chip.array[..256].fill(0x00);
+    let outcome = chip.run(&[&[0x02, 0, 0, at], data].concat(), 0, 1);
+    assert_eq!(outcome, Outcome { missing: outcome.missing, ..Outcome::only(0) });
+    assert_eq!(outcome.word(), u64::from(outcome.missing) << 48);
+    outcome.missing
+}
+
+#[test]
+fn missing_where_data_went() {
+    assert_eq!(missing_over_zeros(7, &[0xFF; 3]), 24);
+    assert_eq!(missing_over_zeros(7, &[0x00; 3]), 0);
+    assert_eq!(missing_over_zeros(0xFF, &[0x80, 0x03]), 3, "on to the page's beginning");
+    assert_eq!(missing_over_zeros(3, &[0xFF; 256]), 2_048, "all of the page");
+    let replaced = [[0xFF; 256], [0x00; 256]].concat();
+    assert_eq!(missing_over_zeros(3, &replaced), 0, "only the last byte of a slot counts");
+    assert_eq!(missing_over_zeros(3, &replaced[1..300]), 8 * 212);
+}
+
+#[test]
+fn missing_ones_over_zeros() {
+    for (before, byte, missing) in
+        [(0xF0, 0xAA, 2), (0xAA, 0xF0, 2), (0x0F, 0x0E, 0), (0x00, 0xFF, 8), (0xFF, 0x00, 0)]
+    {
+        let mut chip = case(worked());
+        chip.array[7] = before;
+        assert_eq!(chip.run(&[0x02, 0, 0, 7, byte], 0, 1).missing, missing);
+        assert_eq!(chip.array[7], before & byte);
+    }
+}
+
+/// What is not an executed program has no bits missing.
+#[test]
+fn missing_of_nothing_else() {
+    let protected = Record { bp: 3, ..worked() };
+    let reset = Record { latch: false, ..worked() };
+    let busy = Record { mode: Mode::Busy(2), ..worked() };
+    let program = [0x02, 0, 0, 0, 0xFF];
+    for (record, answer) in [(protected, 17), (reset, 16), (busy, 12)] {
+        let mut chip = case(record);
+        chip.array.fill(0x00);
+        assert_eq!(chip.run(&program, 0, 1), Outcome::only(answer));
+    }
+    for sent in [&[0xD8, 0, 0, 0][..], &[0xC7], &[0x01, 0xFF], &[0x06], &program[..4]] {
+        let mut chip = case(worked());
+        chip.array.fill(0x00);
+        assert_eq!(chip.run(sent, 0, 1).missing, 0, "{sent:02X?}");
+    }
 }
 
 /// A cycle of one tick starts with the latch reset.

@@ -1,6 +1,6 @@
 //! m25p_pins against the model, over all six parts. RIG_RUNS and RIG_SEED make it longer or another.
 
-use m25p::calls;
+use m25p::{calls, Answer};
 use rig::compare::{episode, Call, Pair, Rules, Seen, Source, Step, Tally, PAPER};
 use rig::faults;
 use rig::model::{Packed, PARTS, RECORD_BYTES, SMALL};
@@ -52,6 +52,7 @@ fn runs_equal_model() {
     }
     let ends = [tally.pins.carried_out, tally.pins.thrown_away, tally.pins.unfinished];
     assert!(ends.into_iter().all(|times| times >= 20), "an end came too seldom");
+    assert_eq!(tally.programs.seldom(20), [""; 0], "programs that came too seldom");
 }
 
 /// With a fault in the model the same comparison finds a difference, each time.
@@ -95,7 +96,8 @@ fn each_run(count: u64, mut look: impl FnMut(&Pair, &Pair, Run)) {
     }
 }
 
-/// Record and array after a run are those of the transactions found, given singly to m25p_transact.
+/// Record and array after a run are those of the transactions found, given singly to m25p_transact, and the
+/// bits missing in it are the sum of theirs.
 #[test]
 fn equals_single_transactions() {
     each_run(500, |before, after, run| {
@@ -104,13 +106,17 @@ fn equals_single_transactions() {
             return;
         }
         let (mut record, mut array) = (run.start, before.real.array.clone());
+        let (missing, mut singly) = (run.seen.missing(), 0);
         for found in run.seen.found {
             let End::Risen { w } = found.end else { continue };
             let (sent, w) = (found.sent(), u32::from(w));
             let mut response = vec![0; sent.len()];
             let array = &mut array[..run.step.array_len];
-            calls::transact(&mut record, array, &sent, found.pulses(), w, &mut response);
+            let reply =
+                calls::transact(&mut record, array, &sent, found.pulses(), w, &mut response);
+            singly += reply.missing();
         }
+        assert_eq!(missing, singly);
         assert_eq!(array, after.real.array);
         assert_eq!(record, after.real.record[..RECORD_BYTES]);
     });
@@ -130,7 +136,8 @@ fn no_output_depends_on_a_later_sample() {
             let mut array = before.real.array[..run.step.array_len].to_vec();
             let samples = &run.samples[..cut];
             let reply = calls::pins(&mut run.start.clone(), &mut array, samples, &mut output);
-            assert_eq!(reply.bits(), 0);
+            assert_eq!((reply.answer(), reply.first(), reply.count()), (Answer::Executed, 0, 0));
+            assert!([0, run.seen.missing()].contains(&reply.missing()));
             assert_eq!(output, after.real.filled[0][..cut]);
         }
     });
@@ -143,8 +150,8 @@ fn plain_program_equals_model() {
         let mut plain = before.real.clone();
         plain.prepare(run.step);
         let (record, array, mut filled) = plain.lend(run.step);
-        let answer = plain_pins::run(record, array, run.samples, filled[0]);
-        assert_eq!(answer, run.seen.answer());
+        let (answer, missing) = plain_pins::run(record, array, run.samples, filled[0]);
+        assert_eq!((answer, missing), (run.seen.answer(), run.seen.missing()));
         assert_eq!(plain.filled, after.modelled.filled);
         assert_eq!(plain.array, after.modelled.array);
         if answer == 0 && plain.record[0] == after.record().part {

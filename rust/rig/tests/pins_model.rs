@@ -69,7 +69,7 @@ impl Case {
         let (mut record, mut array, mut real) = (self.record, self.array.clone(), output.clone());
         let reply = calls::pins(&mut record, &mut array, &samples, &mut real);
         let outcome = Paper.run(&mut self.record, &mut self.array, &samples, &mut output);
-        assert_eq!(reply.bits(), outcome.answer as u64, "{words}");
+        assert_eq!(reply.bits(), outcome.word(), "{words}");
         assert_eq!((record, &array, &real), (self.record, &self.array, &output), "{words}");
         let shown = output[output.len() - last..].iter();
         (outcome, shown.map(|byte| ['0', '1', 'z'][*byte as usize]).collect())
@@ -135,7 +135,7 @@ fn data_and_w_of_that_very_sample() {
     let frozen = |words: &str| {
         let mut case = case(Record { latch: true, ..worked() });
         let (outcome, _) = case.run(&format!("s {}{words}", clocked(&[0x01, 0x00])), 0);
-        outcome.chip == [18]
+        outcome.numbers() == [18]
     };
     assert!(frozen("Sw") && frozen("w S"), "W low as Select rises");
     assert!(!frozen("w SW") && !frozen("w W S") && !frozen("S w"), "W high as Select rises");
@@ -278,7 +278,7 @@ fn ignored_transactions_do_not_refuse_the_run() {
     let mut case = case(worked());
     let words = format!("s S s {}S s {}S", clocked(&[0xFF]), clocked(&[0x06]));
     let (outcome, _) = case.run(&words, 0);
-    assert_eq!((outcome.answer, &outcome.chip[..]), (0, &[11, 14, 0][..]));
+    assert_eq!((outcome.answer, outcome.numbers()), (0, vec![11, 14, 0]));
     assert!(case.latch());
 }
 
@@ -289,8 +289,25 @@ fn no_ticks_pass_within_a_run() {
         let mut case = case(busy);
         let words = format!("s {}S ", clocked(&[0x05, 0x00])).repeat(3);
         let (outcome, _) = case.run(&words, 0);
-        assert_eq!(outcome.chip, [0, 0, 0]);
+        assert_eq!(outcome.numbers(), [0, 0, 0]);
         assert_eq!(Record::unpack(&case.record), Some(busy));
+    }
+}
+
+/// The bits missing are those of the one program that is executed, whatever comes behind it.
+#[test]
+fn missing_bits_are_handed_up() {
+    let program = |data: &[u8]| format!("s {}S ", clocked(&[&[0x02, 0, 0, 0], data].concat()));
+    let enable = format!("s {}S ", clocked(&[0x06]));
+    let words = enable.clone() + &program(&[0xFF, 0xFC, 0xFF]) + &program(&[0xFF]) + &enable;
+    let mut chip = case(worked());
+    let (outcome, _) = chip.run(&words, 0);
+    assert_eq!((outcome.numbers(), outcome.missing), (vec![0, 0, 12, 12], 4 + 2));
+    assert_eq!(chip.array[..3], [0xA5, 0x3C, 0xFF]);
+    let thrown_away = format!("s {}h S", clocked(&[0x02, 0, 0, 0, 0xFF]));
+    let unfinished = format!("s {}", clocked(&[0x02, 0, 0, 0, 0xFF]));
+    for end in [&thrown_away, &unfinished] {
+        assert_eq!(case(worked()).run(&(enable.clone() + end), 0).0.missing, 0);
     }
 }
 
@@ -312,6 +329,7 @@ fn refusals_in_order() {
         let outcome = Paper.run(&mut record, &mut array, samples, &mut output);
         let unchanged = before == (record, array, output);
         assert!(outcome.answer == 0 || unchanged && outcome.found.is_empty());
+        assert_eq!(outcome.missing, 0);
         outcome.answer
     };
     assert_eq!(answer(&[0; RECORD_BYTES - 1], 0, &[0xFF], 0), 8);

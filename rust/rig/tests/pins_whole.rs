@@ -2,7 +2,7 @@
 
 use rig::compare::{Call, Filled, Pair, Rules, Step, Tally, PAPER, SPARE};
 use rig::faults;
-use rig::model::{Record, PARTS, RDSR, READ, RECORD_BYTES, WREN};
+use rig::model::{Record, PARTS, PP, RDSR, READ, RECORD_BYTES, WREN};
 use rig::pins_model::{CLOCK, DATA, HOLD, MOST_BYTES, SELECT, W};
 use rig::probe::{Probe, SpiMode};
 use rig::rng::Rng;
@@ -111,7 +111,19 @@ fn long_runs() -> Vec<(Step, u8)> {
     wrong_array.array_len -= 1;
     runs.push((wrong_array, 2));
     runs.push((run(long_samples(Zero, MOST_BYTES, 0, Risen).repeat(2)), 0));
+    runs.push((run(long_program()), 0));
     runs
+}
+
+/// A write enable, then a program of the most bytes, and a status read.
+fn long_program() -> Vec<u8> {
+    let mut probe = Probe::new(SpiMode::Zero, 1);
+    let mut sent = Rng::new(3).bytes(MOST_BYTES);
+    sent[..4].copy_from_slice(&[PP, 0, 0x01, 0x23]);
+    probe.transaction(&[WREN], 0, true);
+    probe.transaction(&sent, 0, true);
+    probe.transaction(&[RDSR, 0], 0, true);
+    probe.samples
 }
 
 fn compared(rules: Rules, tally: &mut Tally) -> Result<(), String> {
@@ -130,7 +142,7 @@ fn longest_transactions() {
         panic!("{difference}");
     }
     tell(&format!("pins, longest transactions: {}", tally.show()));
-    assert_eq!(tally.answers[22], 5);
+    assert_eq!((tally.answers[22], tally.programs.long), (5, 1));
 }
 
 #[test]

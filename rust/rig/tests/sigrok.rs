@@ -8,7 +8,7 @@ use std::io::Write;
 use std::path::{Path, PathBuf};
 use std::process::Command;
 
-use m25p::calls;
+use m25p::{calls, Answer};
 use rig::compare::{Call, Source};
 use rig::generate::Generator;
 use rig::model::{Mode, Packed, Paper, Record, PARTS};
@@ -82,15 +82,16 @@ struct Chip {
     array: Vec<u8>,
 }
 
-/// The responses of m25p_transact to the transactions, one by one.
-fn responses(start: &Chip, all: &[Sent]) -> Vec<Vec<u8>> {
-    let (mut record, mut array) = (start.record, start.array.clone());
+/// The responses of m25p_transact to the transactions, one by one, and the bits missing in all.
+fn responses(start: &Chip, all: &[Sent]) -> (Vec<Vec<u8>>, u32) {
+    let (mut record, mut array, mut missing) = (start.record, start.array.clone(), 0);
     let mut one = |(sent, pulses, w): &Sent| {
-        let mut response = vec![0; sent.len()];
-        calls::transact(&mut record, &mut array, sent, *pulses, u32::from(*w), &mut response);
+        let (mut response, w) = (vec![0; sent.len()], u32::from(*w));
+        let reply = calls::transact(&mut record, &mut array, sent, *pulses, w, &mut response);
+        missing += reply.missing();
         response
     };
-    all.iter().map(&mut one).collect()
+    (all.iter().map(&mut one).collect(), missing)
 }
 
 fn written(name: &str, bytes: &[u8]) -> PathBuf {
@@ -118,7 +119,9 @@ fn compare(name: &str, start: &Chip, all: &[Sent], mode: SpiMode, half: usize) {
 
     let (mut record, mut array, mut output) =
         (start.record, start.array.clone(), vec![9; samples.len()]);
-    assert_eq!(calls::pins(&mut record, &mut array, &samples, &mut output).bits(), 0);
+    let reply = calls::pins(&mut record, &mut array, &samples, &mut output);
+    let (singly, missing) = responses(start, all);
+    assert_eq!((reply.answer(), reply.missing()), (Answer::Executed, missing), "{name}");
     let text = vcd::text(&samples, &output, Undriven::Floating);
     let dump = written(&format!("{name}.vcd"), text.as_bytes());
     let names = "cs=select:clk=clock:mosi=data";
@@ -129,7 +132,7 @@ fn compare(name: &str, start: &Chip, all: &[Sent], mode: SpiMode, half: usize) {
     let both = samples.iter().zip(&output).map(|(sample, output)| sample | level(*output) << 5);
     let file = written(&format!("{name}-both.bin"), &both.collect::<Vec<u8>>());
     let read = decoded(&file, BINARY, "cs=0:clk=1:mosi=2:miso=5", mode, "miso");
-    assert_eq!(read, responses(start, all), "{name}: output");
+    assert_eq!(read, singly, "{name}: output");
 }
 
 /// Records in which the chip takes everything, only a status read, or only a release.

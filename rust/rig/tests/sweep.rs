@@ -1,5 +1,5 @@
-//! libm25p.a against the model on whole ranges: every first byte in every state, every length, and every
-//! sector under every BP.
+//! libm25p.a against the model on whole ranges: every first byte in every state, every length, every byte over
+//! every byte, every start in a page, and every sector under every BP.
 
 use rig::compare::{Call, Filled, Pair, Step, Tally, PAPER, SPARE};
 use rig::model::{Mode, Record, CODES, PARTS, PP, RECORD_BYTES, SE};
@@ -48,16 +48,34 @@ impl Sweep {
         self.send(from, sent, pulses, w);
     }
 
-    /// A transaction of these bytes, from the given record.
-    fn send(&mut self, from: Record, sent: Vec<u8>, pulses: u32, w: u32) {
+    /// A transaction of these bytes, from the given record; the bits missing.
+    fn send(&mut self, from: Record, sent: Vec<u8>, pulses: u32, w: u32) -> u32 {
         let n = sent.len();
         let filled = vec![Filled { bytes: self.rng.bytes(n + SPARE), len: n }];
         let call = Call::Transact { sent, pulses, w };
         let (record_len, array_len) = (RECORD_BYTES, PARTS[from.part as usize].bytes);
         let step = Step { call, record: Some(from.pack()), record_len, array_len, filled };
-        if let Err(difference) = self.pair.step(&step, &mut self.tally) {
-            panic!("{difference}");
+        match self.pair.step(&step, &mut self.tally) {
+            Ok(seen) => seen.missing(),
+            Err(difference) => panic!("{difference}"),
         }
+    }
+
+    /// The array begins with these bytes, on both sides.
+    fn put(&mut self, bytes: &[u8]) {
+        for side in [&mut self.pair.real, &mut self.pair.modelled] {
+            side.array[..bytes.len()].copy_from_slice(bytes);
+        }
+    }
+
+    /// A program in the first page with these contents, and the same again, as what is missing stays so; the
+    /// bits missing.
+    fn program(&mut self, page: &[u8], start: usize, data: &[u8]) -> u32 {
+        self.put(page);
+        let sent = addressed(PP, start, data);
+        let [first, again] = [0, 1].map(|w| self.send(states(0)[0], sent.clone(), 0, w));
+        assert_eq!(first, again);
+        first
     }
 }
 
@@ -99,6 +117,36 @@ fn addressed(code: u8, address: usize, data: &[u8]) -> Vec<u8> {
     let mut sent = vec![code, (address >> 16) as u8, (address >> 8) as u8, address as u8];
     sent.extend(data);
     sent
+}
+
+/// A program of one byte: the bits missing are those of the byte that the array has not.
+#[test]
+fn every_byte_over_every_byte() {
+    let mut sweep = Sweep::new(0);
+    for before in 0..=255_u8 {
+        for byte in 0..=255_u8 {
+            let missing = sweep.program(&[before], 0, &[byte]);
+            assert_eq!(missing, (byte & !before).count_ones());
+        }
+    }
+}
+
+/// Programs from every place in a page on, shorter and longer than a page.
+#[test]
+fn every_start_in_a_page() {
+    let mut sweep = Sweep::new(0);
+    for start in 0..256 {
+        for length in [1, 2, 100, 255, 256, 257, 300, 511, 512, 513, 600] {
+            let (page, random) = (sweep.rng.bytes(256), sweep.rng.bytes(length));
+            sweep.program(&page, start, &random);
+            let missing = sweep.program(&page, start, &vec![0xFF; length]);
+            let reached = (0..length.min(256)).map(|k| page[(start + k) % 256]);
+            assert_eq!(missing, reached.map(u8::count_zeros).sum::<u32>());
+            assert_eq!(sweep.program(&page, start, &vec![0x00; length]), 0);
+            assert_eq!(sweep.program(&[0xFF; 256], start, &random), 0);
+        }
+    }
+    assert_eq!(sweep.tally.programs.seldom(200), [""; 0], "programs that came too seldom");
 }
 
 #[test]

@@ -17,7 +17,7 @@ use flashrom::{find, tell, Flashrom};
 use m25p::{Part, RECORD_BYTES};
 use rig::model::{Model, Paper, Transaction};
 use rig::rng::Rng;
-use tools::serprog::{Options, Server};
+use tools::serprog::{Board, Options, Server};
 
 /// What the server writes down.
 #[derive(Clone, Default)]
@@ -62,10 +62,10 @@ fn traced(name: &str, part: Part, old: &[u8], new: &[u8]) -> Option<String> {
 fn model_answer(record: &mut [u8], array: &mut [u8], line: &str) -> String {
     let fields: Vec<&str> = line.split(' ').collect();
     let hex: String;
-    let answer = match fields[..] {
+    let outcome = match fields[..] {
         ["w", ticks] => {
             hex = "-".to_string();
-            Paper.wait(record, ticks.parse().unwrap()).answer
+            Paper.wait(record, ticks.parse().unwrap())
         }
         ["x", w, "0", pairs] => {
             let pair = |at| u8::from_str_radix(&pairs[at..at + 2], 16).unwrap();
@@ -74,16 +74,18 @@ fn model_answer(record: &mut [u8], array: &mut [u8], line: &str) -> String {
             let t = Transaction { sent: &sent, pulses: 0, w: w.parse().unwrap() };
             let outcome = Paper.transact(record, array, t, &mut response);
             hex = response.iter().map(|byte| format!("{byte:02X}")).collect();
-            outcome.answer
+            outcome
         }
         _ => panic!("a line of the trace: {line}"),
     };
-    format!("{answer} {hex}")
+    match outcome.missing {
+        0 => format!("{} {hex}", outcome.answer),
+        missing => format!("{} {hex} missing {missing}", outcome.answer),
+    }
 }
 
-/// All that flashrom asks for in a probe and a write, asked of the model: the same answers.
-fn same_answers(name: &str, part: Part, old: &[u8], new: &[u8]) {
-    let Some(printed) = traced(name, part, old, new) else { return };
+/// Puts a trace from the old contents on to the model, which gives the same answers: the new contents.
+fn modelled(part: Part, old: &[u8], printed: &str) -> Vec<u8> {
     let (mut record, mut array) = ([0; RECORD_BYTES], old.to_vec());
     Paper.deliver(&mut record, part.number(), &mut array, [2, 1_000, 10_000, 5]);
     array.copy_from_slice(old);
@@ -91,10 +93,41 @@ fn same_answers(name: &str, part: Part, old: &[u8], new: &[u8]) {
         let (asked, answered) = line.split_once(" = ").expect("a line of the trace");
         assert_eq!(model_answer(&mut record, &mut array, asked), answered, "{asked}");
     }
-    assert!(array == new);
+    array
+}
+
+/// All that flashrom asks for in a probe and a write, asked of the model: the same answers. flashrom erases
+/// first, so that no bit is missing.
+fn same_answers(name: &str, part: Part, old: &[u8], new: &[u8]) {
+    let Some(printed) = traced(name, part, old, new) else { return };
+    assert!(modelled(part, old, &printed) == new);
+    assert!(!printed.contains("missing"));
     let transactions = printed.lines().filter(|line| line.starts_with('x')).count();
     assert!(transactions > 3 * old.len() / 256, "only {transactions} transactions");
     tell(&format!("trace: {name}: {transactions} transactions, the same answers from the model"));
+}
+
+/// Random programs without an erase: the bits missing in the trace are the model's.
+#[test]
+fn trace_of_rewrites_equals_model() {
+    let (part, mut rng, trace) = (Part::M25p40, Rng::new(14), Trace::default());
+    let old = rng.bytes(part.bytes());
+    let mut board = Board::new(&Options::of(part));
+    board.fill(&old);
+    board.trace(Box::new(trace.clone()));
+    for _ in 0..300 {
+        let length = 5 + rng.pick(&[0, 2, 255, 400]);
+        let mut program = rng.bytes(length);
+        program[..3].copy_from_slice(&[0x02, 0x00, 0x01]);
+        for sent in [vec![0x06], program] {
+            board.operate(sent, 0);
+        }
+        board.delay(2_000);
+    }
+    let printed = String::from_utf8(trace.0.lock().unwrap().clone()).unwrap();
+    assert!(modelled(part, &old, &printed) == board.array());
+    let missing = printed.lines().filter(|line| line.contains(" missing ")).count();
+    assert!(missing > 200, "only {missing} programs with bits missing");
 }
 
 #[test]

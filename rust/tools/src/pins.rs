@@ -10,7 +10,7 @@ use std::ffi::OsString;
 use std::path::{Path, PathBuf};
 
 use m25p::pins::NOT_DRIVEN;
-use m25p::{Answer, Chip, Part};
+use m25p::{Answer, Chip, Part, Run};
 
 use crate::replace::write_result;
 use crate::vcd::{self, Undriven};
@@ -22,7 +22,7 @@ pub fn carry_out(words: impl IntoIterator<Item = OsString>) -> Result<String, St
     let samples = std::fs::read(&options.file).map_err(unread)?;
     let mut chip = Chip::deliver(options.part, options.durations)
         .map_err(|answer| refusal("The delivery", answer))?;
-    let output =
+    let Run { output, .. } =
         chip.pins(&samples).map_err(|answer| run_refusal(&options.file, &samples, answer))?;
     let undriven = if options.pulled_up { Undriven::PulledUp } else { Undriven::Floating };
     write(&options.output, || output.clone())?;

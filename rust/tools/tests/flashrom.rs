@@ -20,13 +20,14 @@ struct Bench {
 }
 
 impl Bench {
-    /// A server for the part with this image, if there is a flashrom.
+    /// A server for the part with this image, if there is a flashrom. It tells of a missing erase.
     fn new(test: &str, part: &str, contents: &[u8], options: &[&str]) -> Option<Bench> {
         let program = find(test)?;
         let directory = scratch(&format!("flashrom_{test}_{part}"));
         let image = directory.join("chip.bin");
         fs::write(&image, contents).unwrap();
-        let server = Server::start(part, options, Some(&image));
+        let options = [options, &["--warn-missing"]].concat();
+        let server = Server::start(part, &options, Some(&image));
         let flashrom = Flashrom { program, directory, port: server.port };
         Some(Bench { flashrom, server, image })
     }
@@ -41,10 +42,11 @@ impl Bench {
         self.server.client().operate(&[0x05], 1)[0]
     }
 
-    /// Ends the server, whose image has these contents then.
+    /// Ends the server, whose image has these contents then. In no program an erase was missing.
     fn end(self, contents: &[u8]) {
         let end = self.server.stop();
         assert!(end.status.success() && end.printed.is_empty(), "{}", end.complaints);
+        assert_eq!(end.complaints, "");
         assert!(fs::read(&self.image).unwrap() == contents, "the image");
     }
 }

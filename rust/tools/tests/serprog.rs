@@ -70,6 +70,41 @@ fn trace() {
     assert_eq!(server.stop().printed, lines);
 }
 
+/// The first missing erase is told on standard error, once in the server's life; the trace has them all.
+#[test]
+fn missing_erase() {
+    let server = Server::start("M25P10-A", &["--trace", "--warn-missing"], None);
+    for (address, byte) in [(0x123, 0x0F), (0x123, 0x3C), (0x123, 0xFF), (0x400, 0x55)] {
+        program(&mut server.client(), address, byte);
+    }
+    let end = server.stop();
+    let sentence = "An erase was missing: the program in page 000100 wants 2 bits 1 that are 0. \
+                    Further ones are not told.\n";
+    assert_eq!((end.status.success(), &end.complaints[..]), (true, sentence));
+    let programs = end.printed.iter().filter(|line| line.starts_with("x 1 0 02"));
+    let ends = programs.map(|line| line.split_once(" = 0 FFFFFFFFFF").unwrap().1);
+    assert_eq!(ends.collect::<Vec<&str>>(), ["", " missing 2", " missing 6", ""]);
+}
+
+/// Without the option nothing is told; with it, a closed standard error does not end the server.
+#[test]
+fn missing_erase_that_nobody_hears_of() {
+    for (options, closed) in [(&[][..], false), (&["--warn-missing"], true)] {
+        let mut server = Server::start("M25P10-A", options, None);
+        if closed {
+            server.child.stderr = None;
+        }
+        for byte in [0x0F, 0xFF, 0xFF] {
+            program(&mut server.client(), 0x123, byte);
+        }
+        let mut contents = vec![0xFF; BYTES];
+        contents[0x123] = 0x0F;
+        serves(&server, &contents);
+        let end = server.stop();
+        assert_eq!((end.status.success(), &end.complaints[..]), (true, ""));
+    }
+}
+
 #[test]
 fn hang_up_in_mid_command() {
     let (path, mut contents) = image("hang_up");

@@ -2,6 +2,7 @@
 
 use std::ffi::OsString;
 use std::io::{self, Cursor, ErrorKind, Read, Write};
+use std::sync::{Arc, Mutex};
 
 use m25p::Part;
 use tools::serprog::*;
@@ -191,6 +192,73 @@ fn settings_at_start() {
     }
 }
 
+/// What a board writes down.
+#[derive(Clone, Default)]
+struct Told(Arc<Mutex<Vec<u8>>>);
+
+impl Told {
+    /// All of it so far.
+    fn text(&self) -> String {
+        String::from_utf8(self.0.lock().unwrap().clone()).unwrap()
+    }
+}
+
+impl Write for Told {
+    fn write(&mut self, bytes: &[u8]) -> io::Result<usize> {
+        self.0.lock().unwrap().write(bytes)
+    }
+
+    fn flush(&mut self) -> io::Result<()> {
+        Ok(())
+    }
+}
+
+/// Write enable and a program, whose cycle is over then.
+fn program(board: &mut Board, address: u32, data: &[u8]) {
+    let sent = [&[0x02], &address.to_be_bytes()[1..], data].concat();
+    let cycle = [operation(&[0x06], 0), operation(&sent, 0), delay(9_000), vec![O_EXEC]].concat();
+    assert!(hear(board, &cycle).iter().all(|byte| *byte == ACK));
+}
+
+/// A program's line ends with the bits missing, if there are any.
+#[test]
+fn trace_of_missing_bits() {
+    let (board, told) = (&mut board(), Told::default());
+    board.trace(Box::new(told.clone()));
+    program(board, 0x1FE, &[0x00, 0x00, 0x00]);
+    program(board, 0x1FE, &[0xFF, 0xFF, 0xFF]);
+    program(board, 0x1FD, &[0xFF]);
+    let told = told.text();
+    let programs: Vec<&str> = told.lines().filter(|line| line.starts_with("x 1 0 02")).collect();
+    let expected = [
+        "x 1 0 020001FE000000 = 0 FFFFFFFFFFFFFF",
+        "x 1 0 020001FEFFFFFF = 0 FFFFFFFFFFFFFF missing 24",
+        "x 1 0 020001FDFF = 0 FFFFFFFFFF",
+    ];
+    assert_eq!(programs, expected);
+    assert_eq!(told.matches("missing").count(), 1);
+}
+
+/// The first program in which an erase was missing is told, with its page within the part, and no further one.
+#[test]
+fn warning_of_a_missing_erase() {
+    for (data, wants) in [([0, 0, 4], "1 bit 1 that is 0"), ([0xFF; 3], "24 bits 1 that are 0")] {
+        let (board, told) = (&mut board(), Told::default());
+        board.warn_missing(Box::new(told.clone()));
+        program(board, 0x07_FFFE, &[0; 3]);
+        program(board, 0x07_FFFE, &[0; 3]);
+        assert_eq!(told.text(), "", "no bit is missing");
+        let sentence = format!(
+            "An erase was missing: the program in page 07FF00 wants {wants}. Further ones are not told.\n"
+        );
+        for (address, data) in [(0xF7_FFFE, &data[..]), (0x07_FFFE, &[0xFF]), (0, &[0]), (0, &[1])]
+        {
+            program(board, address, data);
+            assert_eq!(told.text(), sentence);
+        }
+    }
+}
+
 fn parsed(line: &str) -> Result<Options, String> {
     Options::parse(line.split(' ').filter(|word| !word.is_empty()).map(OsString::from))
 }
@@ -202,7 +270,8 @@ fn options() {
         assert_eq!(parsed(&format!("--part {}", name.to_lowercase())), Ok(Options::of(part)));
     }
     let line = "--port 65535 --w 0 --tick-us 10 --bp 7 --srwd 1 --program 1 --sector-erase 2 \
-                --bulk-erase 1000000 --write-status 3 --trace --image a/b --part M25P128";
+                --bulk-erase 1000000 --write-status 3 --trace --image a/b --part M25P128 \
+                --warn-missing";
     let options = parsed(line).unwrap();
     let durations = options.durations;
     assert_eq!((options.part, options.port, options.tick_us), (Part::M25p128, 65_535, 10));
@@ -210,6 +279,7 @@ fn options() {
     assert_eq!((durations.program, durations.sector_erase), (1, 2));
     assert_eq!((durations.bulk_erase, durations.write_status), (1_000_000, 3));
     assert_eq!(options.image.unwrap().to_str(), Some("a/b"));
+    assert!(options.warn_missing && !parsed("--part M25P40 --trace").unwrap().warn_missing);
 }
 
 #[test]
@@ -233,6 +303,8 @@ fn refused_options() {
         ("--part M25P10 --bp 4", "--bp is 0 to 3 on the M25P10, not 4."),
         ("--bp 8 --part M25P40", "--bp is 0 to 7, not 8."),
         (&format!("{part} --trace --trace"), "--trace is given twice."),
+        (&format!("{part} --warn-missing --warn-missing"), "--warn-missing is given twice."),
+        (&format!("{part} --warn-missing 1"), "1 is not an option."),
         (&format!("{part} --image"), "--image has no value."),
     ] {
         assert_eq!(parsed(line), Err(sentence.to_string()), "{line}");

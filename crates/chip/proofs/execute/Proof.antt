@@ -22,11 +22,12 @@ unfolding outcomeOf
 returns c =
     let s = c .before .before .before .before .before .before .before .before .respond .ensures in
     let asked = c .before .before .before .before .before .before .before .before .before .before .before .before .before .before .before .before .pre .0 in
+    let carried = c .before .before .before .before .carry-out .ensures in
     let done = c .executed .ensures in
     record {
-      answer = ap (λ (o : Done). o .answer) done ∙ rw (s .first, s .count);
+      answer = ap (λ (o : Done). o .answer) done ∙ rw (s .first, s .count, carried .0, asked);
       device = ap (λ (o : Done). o .device) done ∙ rw (c .before .byte-at .ensures, asked);
-      memory = c .before .before .before .before .carry-out .ensures ∙ rw asked;
+      memory = carried .1 ∙ rw asked;
       line = s .line;
     }
 

@@ -4,11 +4,11 @@ use borrow.Author.Needs.{needs}
 use Rattle.chip.proofs.executed.Statement.{statement}
 use Rattle.chip.proofs.executed.Tie as tie
 
-cast-t9 : tie.Need-cast-t9
-cast-t9 c = record { fits = omega (arith, c .before .before .before .pre .0) }
-
 cast-t10 : tie.Need-cast-t10
-cast-t10 c = record { fits = omega (arith, c .before .before .before .before .pre .1) }
+cast-t10 c = record { fits = omega (arith, c .before .before .before .pre .0) }
+
+cast-t11 : tie.Need-cast-t11
+cast-t11 c = record { fits = omega (arith, c .before .before .before .before .pre .1) }
 
 returns : tie.Need-returns
 returns c = rw (c .before .before .next-record .ensures)
@@ -18,6 +18,6 @@ executed-spec =
     tie.close
     (tie.spec
     (λ c κs. search needs)
-    cast-t9
     cast-t10
+    cast-t11
     returns)

@@ -21,6 +21,7 @@ returns c =
     let a = c .before .before .before .before .before .before .before .args in
     let k = c .bare .ensures in
     foreseen-by (a .device) (a .array) (a .sent .now) (a .pulses) (a .w) (a .response) (Refused _) (verdict-so (a .device) (a .array) (a .sent .now) (a .pulses) (a .w) (a .response) _ (c .before .before .before .before .before .read-instruction .ensures) (c .before .before .before .before .judge .ensures) ∙ c .before .before .verdict .given .1)
+    (ap (λ (x : Answer). x .missing) k)
     (λ xs r. (ap (λ (x : Answer). x .number) k, ap (λ (x : Answer). x .first) k, ap (λ (x : Answer). x .count) k, refl))
 
 returns-2 : tie.Need-returns-2
@@ -29,6 +30,7 @@ returns-2 c =
     let a = c .before .before .before .before .before .before .before .args in
     let k = c .bare2 .ensures in
     foreseen-by (a .device) (a .array) (a .sent .now) (a .pulses) (a .w) (a .response) (Ignored _) (verdict-so (a .device) (a .array) (a .sent .now) (a .pulses) (a .w) (a .response) _ (c .before .before .before .before .before .read-instruction .ensures) (c .before .before .before .before .judge .ensures) ∙ c .before .before .verdict2 .given .1)
+    (ap (λ (x : Answer). x .missing) k)
     (λ xs r. (ap (λ (x : Answer). x .number) k, ap (λ (x : Answer). x .first) k, ap (λ (x : Answer). x .count) k, refl))
 
 executed-requires : tie.Need-executed-requires
@@ -46,6 +48,7 @@ returns-3 c =
     let i = c .before .before .before .before .before .before .read-instruction .ensures in
     let done = c .executed .ensures in
     foreseen-by (a .device) (a .array) (a .sent .now) (a .pulses) (a .w) (a .response) Executed (verdict-so (a .device) (a .array) (a .sent .now) (a .pulses) (a .w) (a .response) _ i (c .before .before .before .before .before .judge .ensures) ∙ c .before .before .before .enum-told .given .1)
+    (ap (λ (o : Done). o .answer .missing) done)
     (λ xs r.
     let s = span-at (a .device) (a .sent .now) _ i (c .before .before .span-driven .ensures) xs in
     (ap (λ (o : Done). o .answer .number) done, ap (λ (o : Done). o .answer .first) done ∙ s .0, ap (λ (o : Done). o .answer .count) done ∙ s .1, ap (λ (o : Done). o .device) done ∙ rw (c .before .byte-at .ensures, i)))

@@ -6,7 +6,7 @@ use Rattle.device.specs.Packing.{unpackOf}
 use Rattle.device.proofs.Inverse.{opened}
 use Rattle.chip.specs.Outcome.{bare}
 use Rattle.pins.specs.Run.{Ran}
-use Rattle.pins.proofs.Theorems.{run-sound}
+use Rattle.pins.proofs.Theorems.{run-sound, run-few}
 use Rattle.m25p.specs.Calls.{packedAnswer}
 use Rattle.m25p.proofs.Laws.{unpacked-sound, packs, written, kept}
 use Rattle.m25p.proofs.Pins.{refused, ran, next-is}
@@ -20,28 +20,34 @@ returns c =
     let e = ap (λ (x : Checked). x .answer) (c .before .before .before .unpack .ensures) in
     refused (a .packed .now) (a .array .now) (a .samples .now) (a .output .now) (λ z. c .before .if1 .taken (e ∙ z)) (c .bare .ensures ∙ ap (λ (k : ℕ). packedAnswer (bare k)) e)
 
+packed-answer-requires : tie.Need-packed-answer-requires
+packed-answer-requires c κs = run-few (c .before .before .before .before .before .before .before .before .before .before .before .run .ensures)
+
 returns-2 : tie.Need-returns-2
 returns-2 c =
-    let t = c .before .before .before .before .before .before .before .before .before .before .before in
-    let u = c .before .before .before .before .before .before .before .before .before .before .before .before .before .before .before .before .unpack in
-    let a = c .before .before .before .before .before .before .before .before .before .before .before .before .before .before .before .before .before .before .before .before .before .before .args in
+    let t = c .before .before .before .before .before .before .before .before .before .before .before .before in
+    let u = t .before .before .before .before .before .unpack in
+    let a = t .before .before .before .before .before .before .before .before .before .before .before .args in
     let e = ap (λ (x : Checked). x .answer) (u .ensures) in
-    let z : unpackOf (a .packed .now) .answer ≡ 0 = sym e ∙ c .before .before .before .before .before .before .before .before .before .before .before .before .before .before .if1 .left in
+    let z : unpackOf (a .packed .now) .answer ≡ 0 = sym e ∙ t .before .before .before .if1 .left in
     let m : Ran (unpackOf (a .packed .now) .device) (a .array .now) (a .samples .now) (a .output .now) (t .run .result) (t .run .last .1 .0) (t .run .last .1 .1 .1 .0) = rw (← u .ensures) (t .run .ensures) in
     let y = c .before .before .before .before .before .if2 .taken in
     let s = run-sound m (unpacked-sound (a .packed .now) z) in
-    ran (a .packed .now) (a .array .now) (a .samples .now) (a .output .now) z m (c .bare2 .ensures ∙ ap (λ (k : ℕ). packedAnswer (bare k)) (sym y))
+    ran (a .packed .now) (a .array .now) (a .samples .now) (a .output .now) z m (c .packed-answer .ensures)
     (written _ (a .packed .now) y (next-is m y) (packs (c .before .before .before .pack .ensures) (opened (a .packed .now) z .long) s))
+
+packed-answer-requires-2 : tie.Need-packed-answer-requires-2
+packed-answer-requires-2 c κs = run-few (c .before .before .before .before .before .before .before .run .ensures)
 
 returns-3 : tie.Need-returns-3
 returns-3 c =
-    let t = c .before .before .before .before .before .before .before in
-    let u = c .before .before .before .before .before .before .before .before .before .before .before .before .unpack in
-    let a = c .before .before .before .before .before .before .before .before .before .before .before .before .before .before .before .before .before .before .args in
+    let t = c .before .before .before .before .before .before .before .before in
+    let u = t .before .before .before .before .before .unpack in
+    let a = t .before .before .before .before .before .before .before .before .before .before .before .args in
     let e = ap (λ (x : Checked). x .answer) (u .ensures) in
-    let z : unpackOf (a .packed .now) .answer ≡ 0 = sym e ∙ c .before .before .before .before .before .before .before .before .before .before .if1 .left in
+    let z : unpackOf (a .packed .now) .answer ≡ 0 = sym e ∙ t .before .before .before .if1 .left in
     let m : Ran (unpackOf (a .packed .now) .device) (a .array .now) (a .samples .now) (a .output .now) (t .run .result) (t .run .last .1 .0) (t .run .last .1 .1 .1 .0) = rw (← u .ensures) (t .run .ensures) in
-    ran (a .packed .now) (a .array .now) (a .samples .now) (a .output .now) z m (c .bare3 .ensures) (kept _ _ _ (c .before .if2 .left))
+    ran (a .packed .now) (a .array .now) (a .samples .now) (a .output .now) z m (c .packed-answer2 .ensures) (kept _ _ _ (c .before .if2 .left))
 
 pub m25p-pins-spec : {M : Type 1} → statement M
 m25p-pins-spec =
@@ -53,12 +59,12 @@ m25p-pins-spec =
     returns
     (λ c κs. search needs)
     (λ c κs. search needs)
-    (λ c κs. search needs)
+    packed-answer-requires
     (λ c. search needs)
     (λ c. search needs)
     (λ c. search needs)
     returns-2
-    (λ c κs. search needs)
+    packed-answer-requires-2
     (λ c. search needs)
     (λ c. search needs)
     (λ c. search needs)

@@ -6,7 +6,7 @@ use Rattle.device.specs.Packing.{unpackOf}
 use Rattle.device.proofs.Inverse.{opened}
 use Rattle.chip.specs.Outcome.{bare, transacted, Meets}
 use Rattle.m25p.specs.Calls.{packedAnswer, high}
-use Rattle.m25p.proofs.Laws.{packs, written, refused, carried, next-sound, leaves}
+use Rattle.m25p.proofs.Laws.{packs, written, refused, carried, next-sound, leaves, few-missing}
 use borrow.Author.Needs.{needs}
 use Rattle.m25p.proofs.m25p_transact.Statement.{statement}
 use Rattle.m25p.proofs.m25p_transact.Tie as tie
@@ -17,6 +17,9 @@ returns c =
     let a = c .before .before .before .before .before .before .before .before .before .args in
     let e = ap (λ (x : Checked). x .answer) (u .ensures) in
     refused (a .packed .now) (a .array .now) (a .sent .now) (a .pulses) (a .w) (a .response .now) (λ z. c .before .if1 .taken (e ∙ z)) (c .bare .ensures ∙ ap (λ (k : ℕ). packedAnswer (bare k)) e)
+
+packed-answer-requires : tie.Need-packed-answer-requires
+packed-answer-requires c κs = few-missing _ _ _ _ _ _ (c .before .before .before .before .before .before .before .before .before .before .before .transact .ensures)
 
 returns-2 : tie.Need-returns-2
 returns-2 c =
@@ -30,6 +33,9 @@ returns-2 c =
     let s = next-sound (a .packed .now) (a .array .now) (a .sent .now) (a .pulses) (high (a .w)) (a .response .now) z m in
     carried (a .packed .now) (a .array .now) (a .sent .now) (a .pulses) (a .w) (a .response .now) z m (c .packed-answer .ensures)
     (written (t .transact .result .answer .number) (a .packed .now) (c .before .before .before .before .before .if2 .taken) refl (packs (c .before .before .before .pack .ensures) (opened (a .packed .now) z .long) s))
+
+packed-answer-requires-2 : tie.Need-packed-answer-requires-2
+packed-answer-requires-2 c κs = few-missing _ _ _ _ _ _ (c .before .before .before .before .before .before .before .transact .ensures)
 
 returns-3 : tie.Need-returns-3
 returns-3 c =
@@ -52,12 +58,12 @@ m25p-transact-spec =
     returns
     (λ c κs. search needs)
     (λ c κs. search needs)
-    (λ c κs. search needs)
+    packed-answer-requires
     (λ c. search needs)
     (λ c. search needs)
     (λ c. search needs)
     returns-2
-    (λ c κs. search needs)
+    packed-answer-requires-2
     (λ c. search needs)
     (λ c. search needs)
     (λ c. search needs)

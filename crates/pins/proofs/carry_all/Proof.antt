@@ -4,17 +4,17 @@ use mathlib.Core.Logic.{⊎-elim}
 use Prim.Native.Nat.{_≤_, _-_}
 use native.Mathlib.Omega.{arith}
 use lib.ListN.{length}
-use Rattle.pins.proofs.Held.{Held, Begun, held-first, whole-few, begun-anew, begun-same, begun-few, begun-room, held-next, held-last}
+use Rattle.pins.proofs.Held.{Held, Begun, held-first, whole-few, missed-fits, begun-anew, begun-same, begun-few, begun-room, held-next, held-last}
 use borrow.Author.Needs.{needs}
 use Rattle.pins.proofs.carry_all.Statement.{statement}
 use Rattle.pins.proofs.carry_all.Tie as tie
 
 abbrev Inv-loop : tie.InvT-loop
-Inv-loop array₀ samples output₀ sent₀ response₀ device₀ before₀ holding₀ under₀ i₀ array output sent response device before holding under i =
-    (i ≤ length samples) × (length array ≡ length array₀) × (length output ≡ length output₀) × (length sent ≡ length sent₀) × (length response ≡ length response₀) × Held device₀ array₀ samples output₀ i array output sent device before holding under
+Inv-loop array₀ samples output₀ sent₀ response₀ device₀ missing₀ before₀ holding₀ under₀ i₀ array output sent response device missing before holding under i =
+    (i ≤ length samples) × (length array ≡ length array₀) × (length output ≡ length output₀) × (length sent ≡ length sent₀) × (length response ≡ length response₀) × Held device₀ array₀ samples output₀ i array output sent device missing before holding under
 
 abbrev μ-loop : tie.MeasureT-loop
-μ-loop array₀ samples output₀ sent₀ response₀ device₀ before₀ holding₀ under₀ i₀ array output sent response device before holding under i =
+μ-loop array₀ samples output₀ sent₀ response₀ device₀ missing₀ before₀ holding₀ under₀ i₀ array output sent response device missing before holding under i =
     length samples - i
 
 loop-holds : tie.Need-loop-holds Inv-loop μ-loop
@@ -26,6 +26,15 @@ carry-out-requires c κs =
     let s = c .before .before .before .before .before .before .before .before .before .before .before .before .before .before .before .before in
     omega (arith, whole-few (l .inv .5) (s .pre .0), l .inv .3, s .pre .2)
 
+add-missing : tie.Need-add-missing Inv-loop μ-loop
+add-missing c =
+    let j = c .before .before .before .before .before .before .before .before .before .before .before in
+    let l = j .before .before .before .before .before .loop in
+    let s = j .before .before .before .before .before .before .before .before .before .before .before .before in
+    let lt = j .before .before .before .before .loop-test .taken in
+    let response : 65536 ≤ length (l .response) = omega (arith, l .inv .4, s .pre .3) in
+    record { fits = omega (arith, missed-fits _ _ _ _ (l .i) lt (s .pre .0) (l .inv .5) (j .before .before .before .of .ensures) (j .before .of2 .ensures) (l .response) response (c .before .before .before .before .before .before .carry-out .ensures)) }
+
 clocked-requires : tie.Need-clocked-requires Inv-loop μ-loop
 clocked-requires c κs =
     let j = c .before .before .before in
@@ -36,10 +45,10 @@ clocked-requires c κs =
     let en = j .before .before .of2 .ensures in
     let sent : 65536 ≤ length (l .sent) = omega (arith, l .inv .3, s .pre .2) in
     let response : 65536 ≤ length (l .response) = omega (arith, l .inv .4, s .pre .3) in
-    let b : Begun (s .args .device) (s .args .array .now) (s .args .samples .now) (l .i) (j .before .before .of2 .result) (j .if1 .array) (j .if1 .device) (j .if1 .under)
+    let b : Begun (s .args .device) (s .args .array .now) (s .args .samples .now) (l .i) (j .before .before .of2 .result) (j .if1 .array) (j .if1 .device) (j .if1 .missing) (j .if1 .under)
     = ⊎-elim
-    (λ w. rw (w .10, w .12, w .13) (begun-anew _ _ _ _ (l .i) lt (s .pre .0) (l .inv .5) ew en (l .response) response (sym (j .before .changes .ensures (l .holding)) ∙ w .0 .taken) (w .4 .ensures) (w .9 .ensures)))
-    (λ w. rw (w .1, w .3, w .4) (begun-same _ _ _ _ (l .i) lt (s .pre .0) (l .inv .5) ew en (sym (j .before .changes .ensures (l .holding)) ∙ w .0 .left))) (j .if1 .came) in
+    (λ w. rw (w .12, w .14, w .15, w .16) (begun-anew _ _ _ _ (l .i) lt (s .pre .0) (l .inv .5) ew en (l .response) response (sym (j .before .changes .ensures (l .holding)) ∙ w .0 .taken) (w .4 .ensures) (w .11 .ensures)))
+    (λ w. rw (w .1, w .3, w .4, w .5) (begun-same _ _ _ _ (l .i) lt (s .pre .0) (l .inv .5) ew en (sym (j .before .changes .ensures (l .holding)) ∙ w .0 .left))) (j .if1 .came) in
     let eh = c .before .before .on-select .ensures in
     (begun-few _ _ _ _ (l .i) lt (s .pre .0) (l .inv .5) ew en b eh, begun-room _ _ _ _ (l .i) lt (s .pre .0) (l .inv .5) ew en b eh sent)
 
@@ -59,16 +68,16 @@ loop-again c =
     let en = j .before .before .of2 .ensures in
     let sent : 65536 ≤ length (l .sent) = omega (arith, l .inv .3, s .pre .2) in
     let response : 65536 ≤ length (l .response) = omega (arith, l .inv .4, s .pre .3) in
-    let b : Begun (s .args .device) (s .args .array .now) (s .args .samples .now) (l .i) (j .before .before .of2 .result) (j .if1 .array) (j .if1 .device) (j .if1 .under)
+    let b : Begun (s .args .device) (s .args .array .now) (s .args .samples .now) (l .i) (j .before .before .of2 .result) (j .if1 .array) (j .if1 .device) (j .if1 .missing) (j .if1 .under)
     = ⊎-elim
-    (λ w. rw (w .10, w .12, w .13) (begun-anew _ _ _ _ (l .i) lt (s .pre .0) (l .inv .5) ew en (l .response) response (sym (j .before .changes .ensures (l .holding)) ∙ w .0 .taken) (w .4 .ensures) (w .9 .ensures)))
-    (λ w. rw (w .1, w .3, w .4) (begun-same _ _ _ _ (l .i) lt (s .pre .0) (l .inv .5) ew en (sym (j .before .changes .ensures (l .holding)) ∙ w .0 .left))) (j .if1 .came) in
+    (λ w. rw (w .12, w .14, w .15, w .16) (begun-anew _ _ _ _ (l .i) lt (s .pre .0) (l .inv .5) ew en (l .response) response (sym (j .before .changes .ensures (l .holding)) ∙ w .0 .taken) (w .4 .ensures) (w .11 .ensures)))
+    (λ w. rw (w .1, w .3, w .4, w .5) (begun-same _ _ _ _ (l .i) lt (s .pre .0) (l .inv .5) ew en (sym (j .before .changes .ensures (l .holding)) ∙ w .0 .left))) (j .if1 .came) in
     let out : length (l .output) ≡ length (s .args .output .now) = l .inv .2 in (
       omega (arith, lt),
-      ⊎-elim (λ w. rw (w .10) (w .4 .kept .1 .0 ∙ l .inv .1)) (λ w. rw (w .1) (l .inv .1)) (j .if1 .came),
+      ⊎-elim (λ w. rw (w .12) (w .4 .kept .1 .0 ∙ l .inv .1)) (λ w. rw (w .1) (l .inv .1)) (j .if1 .came),
       search needs,
       search needs,
-      ⊎-elim (λ w. rw (w .11) (w .4 .kept .1 .1 .1 .1 .1 .1 .1 .0 ∙ l .inv .4)) (λ w. rw (w .2) (l .inv .4)) (j .if1 .came),
+      ⊎-elim (λ w. rw (w .13) (w .4 .kept .1 .1 .1 .1 .1 .1 .1 .0 ∙ l .inv .4)) (λ w. rw (w .2) (l .inv .4)) (j .if1 .came),
       held-next _ _ _ _ (l .i) lt (s .pre .0) (l .inv .5) ew en b (c .before .before .before .before .before .before .before .before .before .on-select .ensures) out (s .pre .1) sent (c .before .before .before .before .before .before .clocked .ensures) (c .before .before .before .on-hold .ensures) (c .before .when .ensures),
     )
 
@@ -88,6 +97,7 @@ carry-all-spec =
     (λ c κs. search needs)
     (λ c κs. search needs)
     carry-out-requires
+    add-missing
     (λ c κs. search needs)
     (λ c κs. search needs)
     clocked-requires

@@ -8,8 +8,8 @@ use Rattle.pins.proofs.run.Tie as tie
 
 returns : tie.Need-returns
 returns c =
-    let a = c .before .before .before .before .before .args in
-    refused (a .device) (a .array .now) (a .samples .now) (a .output .now) _ (c .before .run-number .ensures) (c .if1 .taken) refl refl
+    let a = c .before .before .before .before .before .before .args in
+    refused (a .device) (a .array .now) (a .samples .now) (a .output .now) _ (c .before .before .run-number .ensures) (c .before .if1 .taken) (c .bare .ensures) refl
 
 carry-all-requires : tie.Need-carry-all-requires
 carry-all-requires c κs =
@@ -19,13 +19,16 @@ carry-all-requires c κs =
 
 returns-2 : tie.Need-returns-2
 returns-2 c =
-    let a = c .before .before .before .before .before .before .before .before .before .before .before .before .before .before .before .before .args in
-    carried (a .device) (a .array .now) (a .samples .now) (a .output .now) (sym (c .before .before .before .before .before .before .before .before .before .before .before .before .run-number .ensures) ∙ c .before .before .before .before .before .before .before .before .before .before .before .if1 .left) refl (c .before .before .before .before .before .before .carry-all .ensures)
+    let b = c .before .before .before .before .before .before .before in
+    let n = b .before .before .before .before .before .before in
+    let a = n .before .before .before .before .args in
+    carried (a .device) (a .array .now) (a .samples .now) (a .output .now) (sym (n .run-number .ensures) ∙ b .before .before .before .before .before .if1 .left) (b .carry-all .ensures)
 
 pub run-spec : {M : Type 1} → statement M
 run-spec =
     tie.close
     (tie.spec
+    (λ c κs. search needs)
     (λ c κs. search needs)
     returns
     (λ c. search needs)

@@ -157,15 +157,20 @@ fn time_pins(name: &str, mode: SpiMode) {
     let Both { array, plain, .. } = &mut both;
     let times = middle(|| {
         let (mut record, mut plain_record) = (start, start);
+        let (mut missing, mut plain_missing) = (0, 0);
         let calls = timed(|| {
             let reply = calls::pins(&mut record, array, black_box(&samples), &mut output);
             assert_eq!(reply.answer(), Answer::Executed);
+            missing = reply.missing();
         });
         let plain = timed(|| {
             let samples = black_box(&samples);
-            assert_eq!(plain_pins::run(&mut plain_record, plain, samples, &mut plain_output), 0);
+            let answer;
+            (answer, plain_missing) =
+                plain_pins::run(&mut plain_record, plain, samples, &mut plain_output);
+            assert_eq!(answer, 0);
         });
-        assert_eq!(record, plain_record);
+        assert_eq!((record, missing), (plain_record, plain_missing));
         (calls, plain)
     });
     assert!(output == plain_output && both.array == both.plain, "the two do not do the same");

@@ -1,7 +1,7 @@
 //! What came up in a comparison, so that a test can see that nothing was left out.
 
 use super::{Call, Seen, Step};
-use crate::model::CODES;
+use crate::model::{full_address, CODES, PP};
 use crate::pins_model::{End, NOT_DRIVEN};
 
 /// Counts by number.
@@ -13,7 +13,26 @@ pub struct Tally {
     pub answers: Counts,
     /// Instructions executed in transactions given singly, by code.
     pub executed: Counts,
+    pub programs: Programs,
     pub pins: PinsTally,
+}
+
+/// Programs executed, singly and in runs: those with bits missing, among them those of a kind, and those with
+/// none missing over a page that was not blank.
+#[derive(Debug, Default)]
+pub struct Programs {
+    pub missing: u64,
+    /// Of one byte.
+    pub single: u64,
+    /// Of at most 256 bytes, from the end of the page on to its beginning.
+    pub wrapped: u64,
+    /// Of more than 256 bytes.
+    pub long: u64,
+    /// Of FF alone.
+    pub all_ff: u64,
+    /// With some of the zeros of the page where no data went.
+    pub spared: u64,
+    pub none_missing: u64,
 }
 
 /// Raw pins: samples and how many of them were driven, the chip's answers to the transactions, and how
@@ -32,20 +51,27 @@ impl Default for Tally {
         let chip = [0; 256];
         let (samples, driven, carried_out, thrown_away, unfinished) = (0, 0, 0, 0, 0);
         let pins = PinsTally { samples, driven, chip, carried_out, thrown_away, unfinished };
-        Tally { calls: 0, answers: [0; 256], executed: [0; 256], pins }
+        let programs = Programs::default();
+        Tally { calls: 0, answers: [0; 256], executed: [0; 256], programs, pins }
     }
 }
 
 impl Tally {
-    /// Counts a call, what it answered, and what it left in the buffers that it fills.
-    pub fn count(&mut self, step: &Step, seen: &Seen, filled: &[Vec<u8>]) {
+    /// Counts a call, what it answered, what it left in the buffers that it fills, and the programs on the
+    /// array from before it.
+    pub fn count(&mut self, step: &Step, seen: &Seen, filled: &[Vec<u8>], before: &[u8]) {
         self.calls += 1;
         self.answers[seen.answer() as usize] += 1;
+        let before = &before[..step.array_len];
         match &step.call {
             Call::Transact { sent, .. } if seen.answer() == 0 => {
                 self.executed[sent[0] as usize] += 1;
+                self.programs.count(sent, seen.missing(), before);
             }
-            Call::Pins { samples } => self.pins.count(samples, seen, &filled[0]),
+            Call::Pins { samples } => {
+                self.pins.count(samples, seen, &filled[0]);
+                self.programs.count_run(seen, before);
+            }
             _ => {}
         }
     }
@@ -58,15 +84,70 @@ impl Tally {
             0 => format!("executed {}", executed.join(", ")),
             _ => self.pins.show(),
         };
-        format!("{} calls; answers {}; {rest}", self.calls, listed(&self.answers))
+        let (calls, answers) = (self.calls, listed(&self.answers));
+        format!("{calls} calls; answers {answers}; {rest}; {}", self.programs.show())
+    }
+}
+
+impl Programs {
+    /// Counts an executed transaction, if it is a program.
+    fn count(&mut self, sent: &[u8], missing: u32, before: &[u8]) {
+        if sent[0] != PP {
+            return;
+        }
+        let at = full_address(sent) % before.len();
+        let (page, data) = (&before[at / 256 * 256..][..256], &sent[4..]);
+        if missing == 0 {
+            self.none_missing += u64::from(page.iter().any(|byte| *byte != 0xFF));
+            return;
+        }
+        let (short, ends) = (data.len() <= 256, at % 256 + data.len());
+        let spared = |i: usize| (i + 256 - at % 256) % 256 >= data.len() && page[i] != 0xFF;
+        self.missing += 1;
+        self.single += u64::from(data.len() == 1);
+        self.wrapped += u64::from(short && ends > 256);
+        self.long += u64::from(!short);
+        self.all_ff += u64::from(data.iter().all(|byte| *byte == 0xFF));
+        self.spared += u64::from((0..256).any(spared));
+    }
+
+    /// Counts the programs that a run executed.
+    fn count_run(&mut self, seen: &Seen, before: &[u8]) {
+        let ended = seen.found.iter().filter(|found| matches!(found.end, End::Risen { .. }));
+        for (found, outcome) in ended.zip(&seen.chip).filter(|(_, outcome)| outcome.answer == 0) {
+            self.count(&found.sent(), outcome.missing, before);
+        }
+    }
+
+    /// The kinds that came less than so many times.
+    pub fn seldom(&self, times: u64) -> Vec<&'static str> {
+        let kinds = [
+            (self.missing, "bits missing"),
+            (self.single, "one byte with bits missing"),
+            (self.wrapped, "a wrap with bits missing"),
+            (self.long, "more than 256 bytes with bits missing"),
+            (self.all_ff, "FF alone with bits missing"),
+            (self.spared, "bits missing, and zeros where no data went"),
+            (self.none_missing, "none missing over a page that was not blank"),
+        ];
+        kinds.into_iter().filter(|(count, _)| *count < times).map(|(_, kind)| kind).collect()
+    }
+
+    fn show(&self) -> String {
+        let Programs { missing, single, wrapped, long, all_ff, spared, none_missing } = self;
+        format!(
+            "programs with bits missing {missing}, of one byte {single}, wrapping {wrapped}, above 256 \
+             bytes {long}, of FF alone {all_ff}, with zeros elsewhere {spared}; with none missing over \
+             a page not blank {none_missing}"
+        )
     }
 }
 
 impl PinsTally {
     fn count(&mut self, samples: &[u8], seen: &Seen, output: &[u8]) {
         self.samples += samples.len() as u64;
-        for number in &seen.chip {
-            self.chip[*number as usize] += 1;
+        for outcome in &seen.chip {
+            self.chip[outcome.answer as usize] += 1;
         }
         for found in &seen.found {
             match found.end {

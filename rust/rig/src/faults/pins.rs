@@ -2,7 +2,7 @@
 
 use super::named;
 use super::walk::*;
-use crate::model::{Model, Paper, Record};
+use crate::model::{self, Model, Paper, Record};
 use crate::pins_model::*;
 
 /// Those that short runs show.
@@ -35,6 +35,7 @@ pub const SHORT: &[(&str, &dyn PinsModel)] = named![
     PulsesDropped,
     UnfinishedCarriedOut,
     TicksPass,
+    LastMissingAlone,
     Afterwards(tells_ignored),
     Afterwards(output_beyond_samples),
     Afterwards(refusal_writes_output),
@@ -68,6 +69,7 @@ as_the_paper![PinsModel: DrivesInHold, SilentAfterHold, MovesOnRise, OneFallLate
 as_the_paper![Walking: ShowsLowBitFirst, OutputKeptAtSelect, UnfinishedByteSilent, ShowsTheFirstRecord];
 as_the_paper![Walking: PulsesDropped, UnfinishedCarriedOut, TicksPass, Afterwards, BitSevenAllowed];
 as_the_paper![Walking: RefusesInOrder, NotCounted, PulsesCountAsByte, LongestRefused];
+as_the_paper![Walking: LastMissingAlone];
 
 /// Bytes are shown with their lowest bit first.
 struct ShowsLowBitFirst;
@@ -131,7 +133,12 @@ impl PinsModel for ShowsTheFirstRecord {
 struct PulsesDropped;
 
 impl PinsModel for PulsesDropped {
-    fn carry_out(&self, found: &Found, record: &mut [u8], array: &mut [u8]) -> Option<u8> {
+    fn carry_out(
+        &self,
+        found: &Found,
+        record: &mut [u8],
+        array: &mut [u8],
+    ) -> Option<model::Outcome> {
         let mut found = found.clone();
         found.bits.truncate(found.bits.len() / 8 * 8);
         Paper.carry_out(&found, record, array)
@@ -142,7 +149,12 @@ impl PinsModel for PulsesDropped {
 struct UnfinishedCarriedOut;
 
 impl PinsModel for UnfinishedCarriedOut {
-    fn carry_out(&self, found: &Found, record: &mut [u8], array: &mut [u8]) -> Option<u8> {
+    fn carry_out(
+        &self,
+        found: &Found,
+        record: &mut [u8],
+        array: &mut [u8],
+    ) -> Option<model::Outcome> {
         let mut found = found.clone();
         if found.end == End::Unfinished {
             found.end = End::Risen { w: true };
@@ -155,10 +167,24 @@ impl PinsModel for UnfinishedCarriedOut {
 struct TicksPass;
 
 impl PinsModel for TicksPass {
-    fn carry_out(&self, found: &Found, record: &mut [u8], array: &mut [u8]) -> Option<u8> {
-        let number = Paper.carry_out(found, record, array)?;
+    fn carry_out(
+        &self,
+        found: &Found,
+        record: &mut [u8],
+        array: &mut [u8],
+    ) -> Option<model::Outcome> {
+        let outcome = Paper.carry_out(found, record, array)?;
         Paper.wait(record, 1);
-        Some(number)
+        Some(outcome)
+    }
+}
+
+/// Only the last transaction's missing bits are handed up.
+struct LastMissingAlone;
+
+impl PinsModel for LastMissingAlone {
+    fn missing_in_all(&self, chip: &[model::Outcome]) -> u32 {
+        chip.last().map_or(0, |outcome| outcome.missing)
     }
 }
 
@@ -181,7 +207,7 @@ impl PinsModel for Afterwards {
 
 /// A number of the chip, 11 to 18, is the answer of the run.
 fn tells_ignored(outcome: &mut Outcome, _: &[u8], _: &mut [u8]) {
-    let told = outcome.chip.iter().copied().find(|number| *number != 0);
+    let told = outcome.numbers().into_iter().find(|number| *number != 0);
     outcome.answer = told.unwrap_or(outcome.answer);
 }
 

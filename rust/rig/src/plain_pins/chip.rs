@@ -8,6 +8,8 @@ pub struct Chip<'a> {
     pub record: Record,
     /// The output, were it open.
     pub shown: u8,
+    /// The bits missing in all programs so far.
+    pub missing: u32,
     array: &'a mut [u8],
     sent: Vec<u8>,
     /// The bits of the unfinished byte, and how many they are.
@@ -24,7 +26,7 @@ impl Chip<'_> {
     pub fn new(record: Record, array: &mut [u8]) -> Chip<'_> {
         let sent = Vec::with_capacity(MOST_BYTES);
         let (shown, byte, bits, driven, address, next) = (NOT_DRIVEN, 0, 0, None, 0, 0);
-        Chip { record, shown, array, sent, byte, bits, driven, address, next }
+        Chip { record, shown, missing: 0, array, sent, byte, bits, driven, address, next }
     }
 
     /// What is driven after the whole bytes taken so far.
@@ -73,7 +75,9 @@ impl Chip<'_> {
         let page = self.address / 256 * 256;
         let from = self.sent.len().saturating_sub(256).max(4);
         for (k, byte) in self.sent.iter().enumerate().skip(from) {
-            self.array[page + (self.address + k - 4) % 256] &= byte;
+            let old = &mut self.array[page + (self.address + k - 4) % 256];
+            self.missing += (byte & !*old).count_ones();
+            *old &= byte;
         }
     }
 

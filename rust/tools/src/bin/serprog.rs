@@ -34,6 +34,9 @@ fn run() -> Result<(), String> {
     if options.trace {
         server.trace(Box::new(stdout()));
     }
+    if options.warn_missing {
+        server.warn_missing(Box::new(stderr()));
+    }
     // The handler only sets a flag, which is safe at any moment.
     for number in [SIGINT, SIGTERM] {
         unsafe { signal(number, stop) };

@@ -17,6 +17,8 @@ pub struct Board {
     /// Microseconds that have passed but do not make a tick yet.
     rest: u64,
     trace: Option<Box<dyn Write + Send>>,
+    /// Where the first missing erase is to be told, until it is.
+    warning: Option<Box<dyn Write + Send>>,
 }
 
 impl Board {
@@ -24,7 +26,8 @@ impl Board {
     pub fn new(options: &Options) -> Board {
         let chip = Chip::deliver(options.part, options.durations).expect("the options are checked");
         let (w_high, tick_us) = (options.w_high, options.tick_us);
-        let mut board = Board { chip, w_high, tick_us, rest: 0, trace: None };
+        let (trace, warning) = (None, None);
+        let mut board = Board { chip, w_high, tick_us, rest: 0, trace, warning };
         let status = u8::from(options.srwd) << 7 | options.bp << 2;
         if status != 0 {
             board.transact(&[WREN], true);
@@ -60,6 +63,11 @@ impl Board {
         self.trace = Some(into);
     }
 
+    /// The first program from now on in which an erase was missing is told in a sentence.
+    pub fn warn_missing(&mut self, into: Box<dyn Write + Send>) {
+        self.warning = Some(into);
+    }
+
     pub fn array(&self) -> &[u8] {
         self.chip.array()
     }
@@ -77,9 +85,29 @@ impl Board {
                 [] => format!("x {w} 0 = {answer} -"),
                 sent => format!("x {w} 0 {} = {answer} {}", hex(sent), hex(&response.line)),
             };
-            let _ = writeln!(trace, "{line}");
+            let missing = match response.missing {
+                0 => String::new(),
+                bits => format!(" missing {bits}"),
+            };
+            let _ = writeln!(trace, "{line}{missing}");
+        }
+        if response.missing > 0 {
+            self.warn(sent, response.missing);
         }
         response
+    }
+
+    /// Tells of a program in which an erase was missing, if none was told of before.
+    fn warn(&mut self, sent: &[u8], missing: u32) {
+        let Some(mut into) = self.warning.take() else { return };
+        let address = sent[1..4].iter().fold(0, |high, byte| high << 8 | usize::from(*byte));
+        let page = address % self.chip.part().bytes() / 256 * 256;
+        let wants = match missing {
+            1 => "1 bit 1 that is 0".to_string(),
+            bits => format!("{bits} bits 1 that are 0"),
+        };
+        let program = format!("the program in page {page:06X} wants {wants}");
+        let _ = writeln!(into, "An erase was missing: {program}. Further ones are not told.");
     }
 
     /// No cycle is longer than the greatest wait of one call.

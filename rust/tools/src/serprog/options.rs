@@ -32,7 +32,9 @@ serprog --part NAME [option]...   an M25P chip for flashrom, on a loopback port
   --sector-erase N   ticks of a sector erase; 1000
   --bulk-erase N     ticks of a bulk erase; 10000
   --write-status N   ticks of a status write; 5
-  --trace            print each transaction and wait as a line of the bench, with its answer
+  --trace            print each transaction and wait as a line of the bench, with its answer, and
+                     with the bits missing where a program wants bits 1 that are 0
+  --warn-missing     say so on standard error at the first such program: an erase was missing
 ";
 
 #[derive(Clone, Debug, PartialEq, Eq)]
@@ -46,6 +48,7 @@ pub struct Options {
     pub tick_us: u32,
     pub durations: Durations,
     pub trace: bool,
+    pub warn_missing: bool,
 }
 
 impl Options {
@@ -61,6 +64,7 @@ impl Options {
             tick_us: 1_000,
             durations: Durations::from([2, 1_000, 10_000, 5]),
             trace: false,
+            warn_missing: false,
         }
     }
 
@@ -77,14 +81,12 @@ impl Options {
             if seen.contains(&word) {
                 return Err(format!("{name} is given twice."));
             }
-            if name == "--trace" {
-                options.trace = true;
-            } else {
-                let value = words.next().ok_or(format!("{name} has no value."))?;
-                match name {
-                    "--part" => part = Some(named(&value)?),
-                    _ => options.set(name, &value)?,
-                }
+            let mut value = || words.next().ok_or(format!("{name} has no value."));
+            match name {
+                "--trace" => options.trace = true,
+                "--warn-missing" => options.warn_missing = true,
+                "--part" => part = Some(named(&value()?)?),
+                _ => options.set(name, &value()?)?,
             }
             seen.push(word);
         }
@@ -121,7 +123,7 @@ impl Options {
     }
 }
 
-const KNOWN: [&str; 12] = [
+const KNOWN: [&str; 13] = [
     "--part",
     "--image",
     "--port",
@@ -134,6 +136,7 @@ const KNOWN: [&str; 12] = [
     "--bulk-erase",
     "--write-status",
     "--trace",
+    "--warn-missing",
 ];
 
 /// A part by flashrom's name, in any case.

@@ -43,6 +43,11 @@ impl Server {
         self.board.trace(into);
     }
 
+    /// The first program from now on in which an erase was missing is told in a sentence.
+    pub fn warn_missing(&mut self, into: Box<dyn Write + Send>) {
+        self.board.warn_missing(into);
+    }
+
     /// The address to be told to clients.
     pub fn address(&self) -> io::Result<SocketAddr> {
         self.listener.local_addr()

@@ -67,7 +67,9 @@ impl Server {
             status.is_some()
         });
         let mut complaints = String::new();
-        self.child.stderr.take().unwrap().read_to_string(&mut complaints).unwrap();
+        if let Some(mut said) = self.child.stderr.take() {
+            said.read_to_string(&mut complaints).unwrap();
+        }
         End { status: status.unwrap(), printed: self.lines.iter().collect(), complaints }
     }
 }

@@ -1,0 +1,101 @@
+-- The bits missing: an executed program alone has any; and over transactions without a wait, one program at the most.
+-- Assumes nothing.
+use mathlib.Core.Path.{_≡_, refl, sym, ap, _∙_}
+use mathlib.Core.Bool.{Bool, true}
+use mathlib.Core.List.{List, [], _∷_}
+use mathlib.Core.Logic.{_⊎_, inl, inr}
+use Prim.Native.Nat.{ℕ, _+_, _/_, _%_, _≤_, _<_}
+use native.Mathlib.Omega.{arith}
+use lib.Dec.{eqb}
+use lib.ListN.{length, getD, drop, replicate}
+use Rattle.memory.specs.Missing.{missing, pageOf, mostMissing}
+use Rattle.parts.specs.declared.Figures.{Figures}
+use Rattle.parts.specs.Parts.{figuresOf}
+use Rattle.device.specs.declared.Device.{Device}
+use Rattle.device.specs.declared.cycle.Kind.the-variants.{Settings, Page, Sector, All}
+use Rattle.device.specs.Device.{isBusy, moded, running}
+use Rattle.chip.specs.declared.table.Turn.{Turn}
+use Rattle.chip.specs.declared.table.Turn.the-variants.{Keep, Enable, Disable, Start, Sleep, Wake}
+use Rattle.chip.specs.Table.{rowOf, rowIn, addressOf}
+use Rattle.chip.specs.Change.{missingOf, turned}
+use Rattle.chip.specs.Outcome.{Outcome, outcomeOf, transacted}
+use Rattle.chip.specs.Events.{Chip, Event, sends, waits, starts, sent, after, reply, missed}
+use Rattle.chip.proofs.Rows.{rows-ind}
+use Rattle.chip.proofs.Rules.{outcome-ind, answer-few}
+use Rattle.chip.proofs.Busy.{busy-stays}
+
+-- no row but that of 02 starts a program
+none-but-02 : (f : Figures) (at : ℕ) (sent array : List ℕ) (code : ℕ) → (code ≡ 0x02 → ⊥) → missingOf (rowOf f code .turn) at sent array ≡ 0
+unfolding missingOf
+none-but-02 f at sent array =
+    rows-ind (λ code r. (code ≡ 0x02 → ⊥) → missingOf (r .turn) at sent array ≡ 0) f
+    (λ h. refl) (λ h. refl) (λ e h. refl) (λ h. refl) (λ h. refl) (λ h. refl) (λ h. refl) (λ h. absurd (h refl)) (λ h. refl) (λ h. refl) (λ e h. refl) (λ e h. refl) (λ code h. refl)
+
+module _ (d : Device) (array bytes : List ℕ) (pulses : ℕ) (w : Bool) (response : List ℕ) where
+  abbrev out : Outcome
+  out = transacted d array bytes pulses w response
+
+  abbrev at : ℕ
+  at = addressOf (figuresOf (d .part)) bytes
+
+  -- only an executed program has bits missing
+  pub only-programs-miss : (getD bytes 0 0 ≡ 0x02 → out .answer .number ≡ 0 → ⊥) → out .answer .missing ≡ 0
+  unfolding outcomeOf
+  only-programs-miss =
+      outcome-ind d array bytes pulses w response (λ (o : Outcome). (getD bytes 0 0 ≡ 0x02 → o .answer .number ≡ 0 → ⊥) → o .answer .missing ≡ 0) (λ a n. refl) (λ h b n. refl)
+      (λ h t n. none-but-02 (figuresOf (d .part)) at bytes array (getD bytes 0 0) (λ e. n e refl))
+
+  -- an executed program has those of its data, from byte 4 on, and of the addressed page before
+  pub program-misses : getD bytes 0 0 ≡ 0x02 → out .answer .number ≡ 0 → out .answer .missing ≡ missing at (drop 4 bytes) (pageOf at array)
+  unfolding outcomeOf missingOf rowOf
+  program-misses c =
+      outcome-ind d array bytes pulses w response (λ (o : Outcome). o .answer .number ≡ 0 → o .answer .missing ≡ missing at (drop 4 bytes) (pageOf at array)) (λ a z. absurd (a z)) (λ h b z. absurd (b z))
+      (λ h t z. rw c)
+
+  -- where bits are missing a cycle runs afterwards
+  missing-runs : (out .answer .missing ≡ 0) ⊎ (isBusy (out .device .mode) ≡ true)
+  unfolding outcomeOf missingOf turned running moded
+  missing-runs =
+      outcome-ind d array bytes pulses w response (λ (o : Outcome). (o .answer .missing ≡ 0) ⊎ (isBusy (o .device .mode) ≡ true)) (λ a. inl refl) (λ h b. inl refl) (λ h t. go (rowIn d bytes .turn))
+    where
+      go : (t : Turn) → (missingOf t at bytes array ≡ 0) ⊎ (isBusy (turned t (figuresOf (d .part)) d (getD bytes 1 0) .mode) ≡ true)
+      go Keep = inl refl
+      go Enable = inl refl
+      go Disable = inl refl
+      go (Start k) = inr refl
+      go Sleep = inl refl
+      go Wake = inl refl
+
+-- ---- over a list
+
+-- transactions alone: no wait, no power-up
+abbrev pub AllSend : List Event → Type 0
+AllSend [] = Unit {0}
+AllSend (sends bytes p w ∷ es) = AllSend es
+AllSend (waits t ∷ es) = ⊥
+AllSend (starts ∷ es) = ⊥
+
+-- in a cycle none
+pub busy-misses : (es : List Event) (c : Chip) → AllSend es → isBusy (c .device .mode) ≡ true → missed es c ≡ 0
+unfolding sent
+busy-misses [] c s h = refl
+busy-misses (sends bytes p w ∷ es) c s h =
+    let e = busy-stays (c .device) (c .array) bytes p w (replicate (length bytes) 0) h in
+    let rest : missed es (after (sends bytes p w) c) ≡ 0 = busy-misses es (after (sends bytes p w) c) s (rw (e .0) h) in
+    rw (e .2, rest)
+busy-misses (waits t ∷ es) c s h = absurd s
+busy-misses (starts ∷ es) c s h = absurd s
+
+-- else at most those of one program: it starts a cycle, in which no other one is executed
+pub missed-few : (es : List Event) (c : Chip) → AllSend es → missed es c ≤ mostMissing
+unfolding sent
+missed-few [] c s = omega arith
+missed-few (sends bytes p w ∷ es) c s =
+    go (missing-runs (c .device) (c .array) bytes p w (replicate (length bytes) 0)) (missed-few es (after (sends bytes p w) c) s) (busy-misses es (after (sends bytes p w) c) s)
+    (answer-few (c .device) (c .array) bytes p w (replicate (length bytes) 0) .missing)
+  where
+    go : {m n : ℕ} {b : Type 0} → (m ≡ 0) ⊎ b → n ≤ mostMissing → (b → n ≡ 0) → m ≤ mostMissing → m + n ≤ mostMissing
+    go (inl z) h k l = omega arith
+    go (inr y) h k l = let e = k y in omega arith
+missed-few (waits t ∷ es) c s = absurd s
+missed-few (starts ∷ es) c s = absurd s
