@@ -49,7 +49,7 @@ pub record Missing : Type 0 where
   pub none : missing 0 [] (replicate 256 0x00) ≡ 0
   -- one byte at each end of the page, and in it, at an address of a later page: slots that no data reached count nothing
   pub one : map (λ (at : ℕ). missing at (0xFF ∷ []) (replicate 256 0x00)) (0x0000 ∷ 0x00FF ∷ 0x0180 ∷ 0x12FF ∷ []) ≡ 8 ∷ 8 ∷ 8 ∷ 8 ∷ []
-  -- the last slot's byte, then the first's: 7F wants seven of FF, 0F four of F0
+  -- the last slot's byte, then the first's: 7F wants seven bits of 00 and none of FF, 0F four and none
   pub wraps : missing 0x02FF (0x7F ∷ 0x0F ∷ []) (before-last 255 0x00 0x00) ∷ missing 0x02FF (0x7F ∷ 0x0F ∷ []) (before-last 255 0xFF 0x00) ∷ missing 0x02FF (0x7F ∷ 0x0F ∷ []) (before-last 255 0x00 0xFF) ∷ [] ≡ 11 ∷ 7 ∷ 4 ∷ []
   -- 255, 256 and 257 bytes FF over 00: all slots but one, all, all
   pub many : map (λ (n : ℕ). missing 0x10 (replicate n 0xFF) (replicate 256 0x00)) (255 ∷ 256 ∷ 257 ∷ []) ≡ 2040 ∷ 2048 ∷ 2048 ∷ []
