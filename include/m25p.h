@@ -42,15 +42,19 @@
  *   bits 0-7     answer number, see enum m25p_number
  *   bits 8-15    first driven position: the first byte of the response that the chip drove
  *   bits 16-47   driven count: how many bytes of the response the chip drove
- *   bits 48-63   missing bits: how many bits a page program wanted 1 that were 0 in the array, 0 to 2,048
+ *   bits 48-63   bits missing: how many bits an executed page program wanted 1 that were 0 in the array
+ *                before, and so stayed 0; 0 to 2,048
  *
- *   Where nothing was driven, and on every number but 0, first and count are 0. The missing bits are 0 on
- *   every number but 0 and for all but a page program, so in every answer of m25p_deliver, m25p_wait and
- *   m25p_power_up.
+ *   The whole word may be other than 0 although the call was executed. Test m25p_answer(r), never the
+ *   whole word: r == 0 is no test for executed.
  *
- *   What they are good for: a program only makes ones zeros. Where it wants a 1 and the array holds a 0,
- *   the 0 stays, the answer is 0 all the same, and the page does not hold what was sent. Missing bits
- *   above 0 say just that: an erase should have come first.
+ *   Where nothing was driven, and on every number but 0, first and count are 0. The bits missing are 0 on
+ *   every number but 0, for every transaction but a page program, and in every answer of m25p_deliver,
+ *   m25p_wait and m25p_power_up. m25p_pins gives the sum over its transactions.
+ *
+ *   What the bits missing are good for: a program can only make a 1 a 0. Where it wants a 1 and the array
+ *   holds a 0, the 0 stays, the answer number is 0 all the same, and the page does not hold what was
+ *   sent. Bits missing above 0 say just that: an erase should have come first.
  *
  * What you may pass
  *
@@ -171,7 +175,7 @@ uint64_t m25p_deliver(uint8_t *record, size_t record_len, uint32_t part,
  * An address is bytes 1 to 3, high byte first, modulo the part's size. A program takes the bytes from 4
  * on: data byte k goes to slot (address + k) modulo 256, a later byte replaces an earlier one in its
  * slot, and then each byte of the addressed page becomes itself AND its slot; where no data went, the
- * byte stays. The missing bits of an executed program are those that are 1 in a slot that data went to
+ * byte stays. The bits missing of an executed program are those that are 1 in a slot that data went to
  * and 0 in the slot's byte of the page before. An FF that was sent counts the zeros under it; a slot
  * where no data went counts nothing; of several bytes for one slot only the last counts.
  *
@@ -223,9 +227,10 @@ uint64_t m25p_power_up(uint8_t *record, size_t record_len);
  *
  * A transaction that is unfinished at the end of the run has no effect either. No ticks pass within a
  * run: a chip that became busy stays so until m25p_wait. A transaction that the chip ignores (11 to 18)
- * does not refuse the run, and its number is not told. An answer of 0 says that the run was carried out;
- * first and count are always 0. The missing bits are the sum over the transactions carried out: at most
- * 2,048, as a chip that was programmed is busy for the rest of the run. A refused run has none.
+ * does not refuse the run, and its number is not told. An answer number of 0 says that the run was
+ * carried out; first and count are always 0. The bits missing are the sum over the transactions carried
+ * out: at most 2,048, as a chip that was programmed is busy for the rest of the run. A refused run has
+ * none.
  *
  * 21 goes by all samples. 22 goes by the pins alone and counts the whole bytes of every transaction,
  * thrown away and unfinished ones too; 65,536 bytes and 7 further pulses are allowed. A refused run
@@ -235,7 +240,7 @@ uint64_t m25p_pins(uint8_t *record, size_t record_len,
                    const uint8_t *samples, size_t samples_len,
                    uint8_t *output, size_t output_len);
 
-/* The answer number, one of enum m25p_number. */
+/* The answer number, one of enum m25p_number: the test for executed. */
 static inline unsigned m25p_answer(uint64_t answer)
 {
     return (unsigned)(answer & 0xFFu);
@@ -253,7 +258,7 @@ static inline uint32_t m25p_count(uint64_t answer)
     return (uint32_t)((answer >> 16) & 0xFFFFFFFFu);
 }
 
-/* The missing bits: above 0 where a page program wanted an erase first. */
+/* The bits missing: above 0 where an erase should have come before a page program. */
 static inline unsigned m25p_missing(uint64_t answer)
 {
     return (unsigned)(answer >> 48);

@@ -18,7 +18,7 @@ use Rattle.chip.specs.declared.answers.Verdict.{Verdict}
 use Rattle.chip.specs.declared.answers.Verdict.the-variants.{Refused, Ignored, Executed}
 use Rattle.chip.specs.declared.Answer.{Answer}
 use Rattle.chip.specs.Table.{addressOf, rowIn}
-use Rattle.chip.specs.Answers.{hostNumber, chipNumber, decided, verdictOf}
+use Rattle.chip.specs.Answers.{hostNumber, chipNumber, verdictOf}
 use Rattle.chip.specs.Line.{heardRow, lined, firstOf, countOf}
 use Rattle.chip.specs.Outcome.{outcomeOf, transacted}
 use Rattle.chip.specs.Events.{Chip, Good, Event, sends, waits, starts, Reply, sent, after, reply, run, missed, story}

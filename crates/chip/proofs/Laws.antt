@@ -118,8 +118,8 @@ module _ (d : Device) (array : ℕ) (sent : List ℕ) (pulses : ℕ) (w : Bool) 
       → ((xs r : List ℕ) → let o = outcomeOf v d xs sent r in (a .number ≡ o .answer .number) × (a .first ≡ o .answer .first) × (a .count ≡ o .answer .count) × (next ≡ o .device))
       → Foreseen d array sent pulses w response a next
   unfolding transacted
-  foreseen-by v e m p =
-      record { missing = m; number = λ xs r l m. rw (l, m, e) (p xs r .0); first = λ xs r l m. rw (l, m, e) (p xs r .1); count = λ xs r l k. rw (l, k, e) (p xs r .2); device = λ xs r l m. rw (l, m, e) (p xs r .3) }
+  foreseen-by v e none p =
+      record { missing = none; number = λ xs r l m. rw (l, m, e) (p xs r .0); first = λ xs r l m. rw (l, m, e) (p xs r .1); count = λ xs r l m. rw (l, m, e) (p xs r .2); device = λ xs r l m. rw (l, m, e) (p xs r .3) }
 
   -- its promise admits one outcome only
   pub one-foresight : {a b : Answer} {next other : Device} → Foreseen d array sent pulses w response a next → Foreseen d array sent pulses w response b other → (a ≡ b) × (next ≡ other)

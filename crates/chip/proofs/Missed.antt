@@ -1,4 +1,4 @@
--- The bits missing: an executed program alone has any; and over transactions without a wait, one program at the most.
+-- The bits missing: an executed program alone has any; and of transactions with no wait and no power-up between them one at the most, since it starts a cycle.
 -- Assumes nothing.
 use mathlib.Core.Path.{_≡_, refl, sym, ap, _∙_}
 use mathlib.Core.Bool.{Bool, true}
@@ -6,22 +6,26 @@ use mathlib.Core.List.{List, [], _∷_}
 use mathlib.Core.Logic.{_⊎_, inl, inr}
 use Prim.Native.Nat.{ℕ, _+_, _/_, _%_, _≤_, _<_}
 use native.Mathlib.Omega.{arith}
-use lib.Dec.{eqb}
-use lib.ListN.{length, getD, drop, replicate}
+use lib.ListN.{length, getD, drop, replicate, length-drop}
+use lib.Seq.{getD-drop}
+use Rattle.slices.specs.Changed.{mapAt}
+use Rattle.slices.proofs.Maps.{getD-map}
+use Rattle.memory.specs.Memory.{blank, filled, reached, landed, programmed}
 use Rattle.memory.specs.Missing.{missing, pageOf, mostMissing}
+use Rattle.memory.proofs.Enough.{none-missing}
 use Rattle.parts.specs.declared.Figures.{Figures}
 use Rattle.parts.specs.Parts.{figuresOf}
 use Rattle.device.specs.declared.Device.{Device}
-use Rattle.device.specs.declared.cycle.Kind.the-variants.{Settings, Page, Sector, All}
 use Rattle.device.specs.Device.{isBusy, moded, running}
+use Rattle.device.specs.Cycles.{touched}
 use Rattle.chip.specs.declared.table.Turn.{Turn}
 use Rattle.chip.specs.declared.table.Turn.the-variants.{Keep, Enable, Disable, Start, Sleep, Wake}
 use Rattle.chip.specs.Table.{rowOf, rowIn, addressOf}
-use Rattle.chip.specs.Change.{missingOf, turned}
+use Rattle.chip.specs.Change.{cycleOf, changed, missingOf, turned}
 use Rattle.chip.specs.Outcome.{Outcome, outcomeOf, transacted}
-use Rattle.chip.specs.Events.{Chip, Event, sends, waits, starts, sent, after, reply, missed}
+use Rattle.chip.specs.Events.{Chip, Event, sends, waits, starts, sent, after, missed}
 use Rattle.chip.proofs.Rows.{rows-ind}
-use Rattle.chip.proofs.Rules.{outcome-ind, answer-few}
+use Rattle.chip.proofs.Rules.{Bytes, outcome-ind, answer-few}
 use Rattle.chip.proofs.Busy.{busy-stays}
 
 -- no row but that of 02 starts a program
@@ -51,6 +55,30 @@ module _ (d : Device) (array bytes : List ℕ) (pulses : ℕ) (w : Bool) (respon
   program-misses c =
       outcome-ind d array bytes pulses w response (λ (o : Outcome). o .answer .number ≡ 0 → o .answer .missing ≡ missing at (drop 4 bytes) (pageOf at array)) (λ a z. absurd (a z)) (λ h b z. absurd (b z))
       (λ h t z. rw c)
+
+  -- the array after an executed program
+  program-array : getD bytes 0 0 ≡ 0x02 → out .answer .number ≡ 0 → out .array ≡ mapAt (programmed at (filled blank at (drop 4 bytes))) array
+  unfolding outcomeOf changed cycleOf touched rowOf
+  program-array c =
+      outcome-ind d array bytes pulses w response (λ (o : Outcome). o .answer .number ≡ 0 → o .array ≡ mapAt (programmed at (filled blank at (drop 4 bytes))) array) (λ a z. absurd (a z)) (λ h b z. absurd (b z))
+      (λ h t z. rw c)
+
+  -- every byte that the data reached ends as the last data byte that went to its slot
+  abbrev pub AsSent : Type 0
+  AsSent = (i : ℕ) → i < length array → i / 256 ≡ at / 256 → reached at (drop 4 bytes) (i % 256) ≡ true → getD (out .array) i 0 ≡ landed at (drop 4 bytes) (i % 256) 255
+
+  -- an executed program has no bits missing exactly if that is so
+  pub program-enough : Bytes array → Bytes bytes → getD bytes 0 0 ≡ 0x02 → out .answer .number ≡ 0 → (out .answer .missing ≡ 0 → AsSent) × (AsSent → out .answer .missing ≡ 0)
+  program-enough b s c z =
+      let n = none-missing at (drop 4 bytes) array data-bytes b in
+      let m = program-misses c z in
+      (λ e i l p r. ends i l ∙ n .0 (sym m ∙ e) i l p r, λ all. m ∙ n .1 (λ i l p r. sym (ends i l) ∙ all i l p r))
+    where
+      data-bytes : (i : ℕ) → i < length (drop 4 bytes) → getD (drop 4 bytes) i 0 < 256
+      data-bytes i l = let e = length-drop 4 bytes in rw (getD-drop 4 bytes i 0) (s (4 + i) (omega arith))
+
+      ends : (i : ℕ) → i < length array → getD (out .array) i 0 ≡ programmed at (filled blank at (drop 4 bytes)) i (getD array i 0)
+      ends i l = ap (λ (xs : List ℕ). getD xs i 0) (program-array c z) ∙ getD-map (programmed at (filled blank at (drop 4 bytes))) array i 0 l
 
   -- where bits are missing a cycle runs afterwards
   missing-runs : (out .answer .missing ≡ 0) ⊎ (isBusy (out .device .mode) ≡ true)

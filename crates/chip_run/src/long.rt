@@ -62,7 +62,7 @@ pub(crate) fn rewritten() {
     let mut b = [0; 4096];
     let mut r = [0; 300];
     let mut s = [0; 300];
-    let t = steps::begin(b"missing-most", 0, &mut a, &mut b);
+    let t = steps::begin(b"missing-long", 0, &mut a, &mut b);
     let t = steps::exchange(t, &mut a, &mut b, &zeros, 0, true, &mut r, &mut s);
     let t = steps::ready(t);
     let t = steps::exchange(t, &mut a, &mut b, &sent, 0, true, &mut r, &mut s);

@@ -137,7 +137,7 @@ fn missing() {
         b"missing-wrap",
         b"x 1 0 020000FF0FFC;w 3;x 1 0 06;x 1 0 0200010000;w 3;x 1 0 06;x 1 0 020000FFFFFF",
     );
-    // none where the program is ignored: 12, 16, 17, 15
+    // none where the program is ignored: 12, 16, 17, 15; eight where it is executed
     bench(
         b"missing-ignored",
         b"x 1 0 02000C1000;x 1 0 02000C10FF;w 3;x 1 0 02000C10FF;= 0 1 1;x 1 0 02000C10FF;x 1 1 02000C10FF;= 0 0 1;x 1 0 02000C10FF",

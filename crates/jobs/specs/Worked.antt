@@ -132,13 +132,14 @@ pub record Called : Type 0 where
   pub ignored : called 1 .answer ≡ bare 15
   pub kept : getD (called 1 .array) 16 0 ≡ 0x7F
   pub still : called 1 .device ≡ start .device
+  pub silent : called 1 .response ≡ replicate 5 0xFF
   -- eight: refused with 4, and nothing changes
   pub refused : called 8 ≡ record { answer = bare 4; device = start .device; array = replicate 4096 0x7F; response = replicate 5 0x55 }
 
 -- computed by the checker
 pub is-called : Called
 unfolding jobbed sent transacted outcomeOf verdictOf decided hostNumber chipNumber rowOf addressOf asNeeded inProtected protectedOf cycleOf touched changed missingOf missing missingAt pageOf ones onesIn turned running moded latched waited waitCall soundAnswer sound statusByte latchAt figuresOf mapAt window sumAt programmed erased blank memory.filled reached landed byRow heard heardRow driven lined drivingAt firstOf countOf
-is-called = record { executed = refl; byte = refl; rests = refl; line = refl; ignored = refl; kept = refl; still = refl; refused = refl }
+is-called = record { executed = refl; byte = refl; rests = refl; line = refl; ignored = refl; kept = refl; still = refl; silent = refl; refused = refl }
 
 -- ---- the wait
 

@@ -8,19 +8,18 @@ use native.Mathlib.Omega.{arith}
 use lib.Dec.{eqb, ltb, lit≤}
 use lib.ListN.{length}
 use Rattle.slices.proofs.Choices.{cond-ind, zero-ind}
-use Rattle.memory.specs.Missing.{mostMissing}
 use Rattle.parts.specs.Parts.{figuresOf, knownPart}
 use Rattle.device.specs.declared.Device.{Device}
 use Rattle.device.specs.declared.Checked.{Checked}
-use Rattle.device.specs.Device.{sound, onZero, rangedOf, waitCall, powerUpCall, soundAnswer}
+use Rattle.device.specs.Device.{sound, rangedOf, waitCall, powerUpCall, soundAnswer}
 use Rattle.device.specs.Packing.{packedLength, formed, fieldsOf, unpackAnswer, unpackOf}
 use Rattle.chip.specs.declared.Answer.{Answer}
 use Rattle.chip.specs.Answers.{deliveryAnswer}
 use Rattle.chip.specs.Outcome.{Outcome, bare, outcomeOf}
 use Rattle.chip.proofs.Rules.{Few, answer-few}
 use Rattle.pins.specs.Pins.{oddSamples, tooLong}
-use Rattle.pins.specs.Run.{missedIn, runAnswer, answerOf}
-use Rattle.pins.proofs.Carried.{missed-most}
+use Rattle.pins.specs.Run.{runAnswer, answerOf}
+use Rattle.pins.proofs.Runs as pins
 use Rattle.m25p.specs.Calls.{packedAnswer, high, transactedC, Called, checkedC, CalledOn, deliveryC, DeliveredC}
 use Rattle.m25p.specs.Pins.{pinsC, RanC}
 
@@ -107,5 +106,5 @@ unfolding answerOf
 pins-apart packed array samples output ran =
     let k = pinsC packed (length array) samples (length output) in
     let d = unpackOf packed .device in
-    let m : onZero k (missedIn d array samples) 0 ≤ mostMissing = zero-ind (λ (n : ℕ). n ≤ mostMissing) k (missed-most d array samples) (lit≤ tt) in
-    rw (ran .answer) (apart (answerOf k d array samples) (omega (arith, pins-few packed array samples output)) (omega arith) (omega arith) (omega arith))
+    rw (ran .answer)
+    (apart (answerOf k d array samples) (omega (arith, pins-few packed array samples output)) (omega arith) (omega arith) (omega (arith, pins.answer-few k d array samples)))

@@ -11,7 +11,8 @@ use Rattle.device.specs.Packing.{unpackAnswer, unpackOf}
 use Rattle.chip.specs.declared.Answer.{Answer}
 use Rattle.chip.specs.declared.Done.{Done}
 use Rattle.chip.specs.Outcome.{bare}
-use Rattle.pins.specs.Run.{chipAfter, missedIn, outputAt, runAnswer, answerOf, Ran}
+use Rattle.pins.specs.Run.{chipAfter, outputAt, runAnswer, answerOf, Ran}
+use Rattle.pins.proofs.Runs.{answer-bare}
 use Rattle.m25p.specs.Calls.{packedAnswer, packedBy}
 use Rattle.m25p.specs.Pins.{pinsC, RanC}
 use Rattle.m25p.proofs.Laws.{named, kept}
@@ -19,7 +20,7 @@ use Rattle.m25p.proofs.Laws.{named, kept}
 module _ (packed array samples output : List ℕ) where
   -- the packing is refused
   pub refused : {r : ℕ} → (unpackOf packed .answer ≡ 0 → ⊥) → r ≡ packedAnswer (bare (unpackOf packed .answer)) → RanC packed array samples output r packed array output
-  unfolding pinsC answerOf
+  unfolding pinsC
   refused n e =
       let k = unpackAnswer packed in
       let d = unpackOf packed .device in
@@ -27,7 +28,7 @@ module _ (packed array samples output : List ℕ) where
       let q : k ≡ pinsC packed (length array) samples (length output) = other k (runAnswer d (length array) samples (length output)) k m in
       let z : pinsC packed (length array) samples (length output) ≡ 0 → ⊥ = λ w. m (q ∙ w) in
       record {
-        answer = e ∙ ap packedAnswer (ap (λ (j : ℕ). bare j) (named packed ∙ q) ∙ ap (λ (n : ℕ). record { number = pinsC packed (length array) samples (length output); first = 0; count = 0; missing = n }) (other (pinsC packed (length array) samples (length output)) (missedIn d array samples) 0 z));
+        answer = e ∙ ap packedAnswer (ap bare (named packed ∙ q) ∙ answer-bare (pinsC packed (length array) samples (length output)) d array samples z);
         bytes = kept (pinsC packed (length array) samples (length output)) (chipAfter d array samples .device) packed z;
         memory = other (pinsC packed (length array) samples (length output)) (chipAfter d array samples .array) array z;
         shown = other (pinsC packed (length array) samples (length output)) (mapAt (window 0 (length samples) (outputAt d array samples)) output) output z;

@@ -1,4 +1,4 @@
--- No bit is missing exactly if every byte that the data reached ends as its slot.
+-- No bit is missing exactly if every byte that the data reached ends as its slot; and counted after the program, the same bits are missing.
 -- Assumes nothing.
 use mathlib.Core.Path.{_≡_, refl, sym, ap, ap₂, _∙_}
 use mathlib.Core.Bool.{Bool, true, false, cond}
@@ -12,8 +12,9 @@ use lib.ListN.{length, getD, drop, length-take, length-drop}
 use lib.Arith.{lt-one}
 use lib.Bits.{bitAnd, and-step, and-zero-l, and-zero-r, and-le-l}
 use lib.Count.{ones, ones-step}
-use Rattle.slices.specs.Changed.{sumAt}
-use Rattle.slices.proofs.Sums.{sum-zero, zeros-sum}
+use Rattle.slices.specs.Changed.{mapAt, sumAt}
+use Rattle.slices.proofs.Sums.{sum-zero, zeros-sum, sum-places}
+use Rattle.slices.proofs.Maps.{length-map, getD-map}
 use Rattle.slices.proofs.Ands.{and-half, and-odd}
 use Rattle.slices.proofs.Choices.{cond-ind}
 use Rattle.memory.specs.Memory.{blank, filled, reached, landed, programmed}
@@ -87,8 +88,8 @@ again (suc k) s x h l =
     one : (a b : ℕ) → a < 2 → b < 2 → min a (1 - min b a) ≡ min a (1 - b)
     one a b h l = omega arith
 
--- so it does not matter whether a byte is counted before it is programmed or after
-pub unmet-again : (s x : ℕ) → s < 256 → x < 256 → unmet s (bitAnd x s) ≡ unmet s x
+-- a byte and its slot
+unmet-again : (s x : ℕ) → s < 256 → x < 256 → unmet s (bitAnd x s) ≡ unmet s x
 unmet-again s x h l = ap ones (again 8 s x h l)
 
 -- every byte of a list is below 256
@@ -157,4 +158,40 @@ module _ (at : ℕ) (s xs : List ℕ) (data-bytes : AllBytes s) (array-bytes : A
               let m : i % 256 ≡ k = omega arith in
               let d : bitAnd (getD xs i 0) (landed at s (i % 256) 255) ≡ landed at s (i % 256) 255 = sym (ends-as i (p .0) e (rw m r)) ∙ all i (p .0) e (rw m r) in
               ap (unmet (landed at s k 255)) (page-byte at xs k l) ∙ (ap (λ (n : ℕ). unmet (landed at s n 255) (getD xs i 0)) (sym m) ∙ one-met i (p .0) e .1 d)
+          go false r = refl
+
+  -- the array after the program
+  abbrev pub after : List ℕ
+  after = mapAt (programmed at (filled blank at s)) xs
+
+  after-length : length (pageOf at after) ≡ length (pageOf at xs)
+  unfolding pageOf
+  after-length =
+      let d = at / 256 * 256 in
+      length-take 256 (drop d after) ∙ rw (length-drop d after, length-map (programmed at (filled blank at s)) xs, ← length-drop d xs) (sym (length-take 256 (drop d xs)))
+
+  -- counted on it, the same bits are missing: it does not matter whether the page is counted before it is programmed or after
+  pub missing-again : missing at s (pageOf at after) ≡ missing at s (pageOf at xs)
+  unfolding missing missingAt sumAt
+  missing-again = sum-places 0 (missingAt at s) (pageOf at after) (pageOf at xs) after-length (λ k h. rw zero-add (slot-again k (rw after-length at h)))
+    where
+      slot-again : (k : ℕ) → k < length (pageOf at xs) → missingAt at s k (getD (pageOf at after) k 0) ≡ missingAt at s k (getD (pageOf at xs) k 0)
+      slot-again k h = go (reached at s k) refl
+        where
+          i : ℕ
+          i = at / 256 * 256 + k
+
+          p : (i < length xs) × (k < 256)
+          p = place k h
+
+          go : (t : Bool) → reached at s k ≡ t
+              → cond t (unmet (landed at s k 255) (getD (pageOf at after) k 0)) 0 ≡ cond t (unmet (landed at s k 255) (getD (pageOf at xs) k 0)) 0
+          go true r =
+              let l = p .1 in
+              let e : i / 256 ≡ at / 256 = omega arith in
+              let m : i % 256 ≡ k = omega arith in
+              let x = getD xs i 0 in
+              let b : getD (pageOf at after) k 0 ≡ bitAnd x (landed at s k 255) =
+              page-byte at after k l ∙ getD-map (programmed at (filled blank at s)) xs i 0 (p .0) ∙ ends-as i (p .0) e (rw m r) ∙ ap (λ (n : ℕ). bitAnd x (landed at s n 255)) m in
+              ap (unmet (landed at s k 255)) b ∙ unmet-again (landed at s k 255) x (landed-byte at s k 255 (lit< tt) data-bytes) (array-bytes i (p .0)) ∙ ap (unmet (landed at s k 255)) (sym (page-byte at xs k l))
           go false r = refl

@@ -1,4 +1,4 @@
--- Laws of `specs/Missing.antt`: what a latch that is all 00 at first counts, how many bits can be missing, and which slots the data reaches.
+-- Laws of `specs/Missing.antt`: what a latch that is all 00 at first counts, how many bits can be missing, and which slots the data byte-reaches.
 -- Assumes nothing.
 use mathlib.Core.Path.{_≡_, refl, sym, ap, _∙_}
 use mathlib.Core.Bool.{Bool, true, false, cond, _||_, false≢true}
@@ -107,11 +107,11 @@ missing-few at s xs =
 -- ---- which slots
 
 -- data byte k reaches slot (address + k) modulo 256
-pub reaches : (at : ℕ) (s : List ℕ) (slot k : ℕ) → k < length s → (at + k) % 256 ≡ slot → reached at s slot ≡ true
+pub byte-reaches : (at : ℕ) (s : List ℕ) (slot k : ℕ) → k < length s → (at + k) % 256 ≡ slot → reached at s slot ≡ true
 unfolding reached
-reaches at [] slot k l e = absurd (omega arith)
-reaches at (b ∷ s) slot zero l e = rw (eq-eqb (at % 256) slot (omega arith))
-reaches at (b ∷ s) slot (suc k) l e = rw (reaches (at + 1) s slot k (omega arith) (omega arith)) (either (eqb (at % 256) slot))
+byte-reaches at [] slot k l e = absurd (omega arith)
+byte-reaches at (b ∷ s) slot zero l e = rw (eq-eqb (at % 256) slot (omega arith))
+byte-reaches at (b ∷ s) slot (suc k) l e = rw (byte-reaches (at + 1) s slot k (omega arith) (omega arith)) (either (eqb (at % 256) slot))
   where
     either : (a : Bool) → a || true ≡ true
     either true = refl
@@ -119,4 +119,4 @@ reaches at (b ∷ s) slot (suc k) l e = rw (reaches (at + 1) s slot k (omega ari
 
 -- where the data is 256 bytes or more, every slot is reached
 pub all-reached : (at : ℕ) (s : List ℕ) (slot : ℕ) → slot < 256 → 256 ≤ length s → reached at s slot ≡ true
-all-reached at s slot lt h = reaches at s slot ((slot + 256 - at % 256) % 256) (omega arith) (omega arith)
+all-reached at s slot lt h = byte-reaches at s slot ((slot + 256 - at % 256) % 256) (omega arith) (omega arith)

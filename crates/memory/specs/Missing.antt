@@ -1,4 +1,4 @@
--- Wish 5: how many bits a program wants 1 where the array holds 0, and only an erase would have given them.
+-- Document 02, Wish 5: how many bits a program wants 1 where the array holds 0, and only an erase would have given them.
 --     unmet        the bits that are 1 in a slot and 0 in byte x
 --     missingAt    the same of byte x of the page in a slot that the data reached, as the data leaves the slot; 0 in a slot that no data byte reached
 --     missing      the sum over the bytes of the page before, from the address and the data

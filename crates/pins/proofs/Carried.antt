@@ -14,14 +14,14 @@ use Rattle.memory.specs.Missing.{mostMissing}
 use Rattle.device.specs.declared.Device.{Device}
 use Rattle.chip.specs.Line.{Driven, silent, drives, driven}
 use Rattle.chip.specs.Line.{lineByte}
-use Rattle.chip.specs.Events.{Event, sends, missed}
+use Rattle.chip.specs.Events.{Event, sends, reply, missed}
 use Rattle.chip.proofs.Lines.{driven-before, heard-laws}
 use Rattle.chip.proofs.Events.{sent-room, missed-append}
 use Rattle.chip.proofs.Missed.{AllSend, missed-few}
 use Rattle.pins.specs.declared.levels.Levels.{Levels}
 use Rattle.pins.specs.declared.underway.Underway.{Underway}
 use Rattle.pins.specs.Pins.{levelsOf, Pins, changes, ends, takes, moves, Transaction, Taking, anew, shifted, bitTaken, movedOn, clocked, nextTaking, nextFound, Seen, step, seen}
-use Rattle.pins.specs.Run.{Chip, carriedOut, eventsOf, carriedAll, chipAfter, missedBy, missedIn, bitIn}
+use Rattle.pins.specs.Run.{Chip, carriedOut, eventsOf, carriedAll, chipAfter, missedIn, bitIn}
 use Rattle.pins.specs.Counted.{underwayOf, noneYet, bitNow, shownOn, stored, oneMore, Clocked, endedWith, missedWith}
 use Rattle.pins.proofs.Seen.{seen-next, unchanged}
 
@@ -30,6 +30,10 @@ use Rattle.pins.proofs.Seen.{seen-next, unchanged}
 -- the transaction under way, were Select to rise
 abbrev pub ending : Taking → Levels → Transaction
 ending t now = record { sent = t .sent; pulses = t .pulses; w = now .w }
+
+-- the bits missing in one transaction
+abbrev pub missedBy : Chip → Transaction → ℕ
+missedBy c t = reply (sends (t .sent) (t .pulses) (t .w)) c .answer .missing
 
 -- what the code carries out
 pub ended-is : (c : Chip) (p : Pins) (now : Levels) (t : Taking) (response : List ℕ) → length (t .sent) ≤ length response
@@ -48,11 +52,11 @@ all-append c [] us = refl
 all-append c (t ∷ ts) us = all-append (carriedOut c t) ts us
 
 -- transactions alone are no waits
-pub all-send : (ts : List Transaction) → AllSend (eventsOf ts)
+all-send : (ts : List Transaction) → AllSend (eventsOf ts)
 all-send [] = tt
 all-send (t ∷ ts) = all-send ts
 
-pub events-append : (ts us : List Transaction) → eventsOf (ts ++ us) ≡ eventsOf ts ++ eventsOf us
+events-append : (ts us : List Transaction) → eventsOf (ts ++ us) ≡ eventsOf ts ++ eventsOf us
 events-append [] us = refl
 events-append (t ∷ ts) us = ap (λ (es : List Event). sends (t .sent) (t .pulses) (t .w) ∷ es) (events-append ts us)
 

@@ -17,10 +17,10 @@ use Rattle.pins.specs.declared.Tally.{Tally}
 use Rattle.pins.specs.declared.levels.Levels.{Levels}
 use Rattle.pins.specs.declared.underway.Underway.{Underway}
 use Rattle.pins.specs.Pins.{levelsOf, Pins, onSelect, changes, ends, takes, Taking, anew, clocked, nextTaking, Seen, atRest, step, seen, tooLong}
-use Rattle.pins.specs.Run.{Chip, carriedOut, chipAfter, missedBy, missedIn, outputOf, outputAfter, outputAt}
+use Rattle.pins.specs.Run.{Chip, carriedOut, chipAfter, missedIn, outputOf, outputAfter, outputAt}
 use Rattle.pins.specs.Counted.{pinsOf, selected, heldAfter, underwayOf, noneYet, Clocked, endedWith, missedWith, CarriedOut, CarriedAll}
 use Rattle.pins.proofs.Seen.{seen-next, at-rest, select-is, pins-next, few-begun, few-pulses, short}
-use Rattle.pins.proofs.Carried.{ending, ended-is, missed-is, chip-next, missed-next, missed-most, no-end, none-yet, byte-more, clock-more}
+use Rattle.pins.proofs.Carried.{ending, missedBy, ended-is, missed-is, chip-next, missed-next, missed-most, no-end, none-yet, byte-more, clock-more}
 
 -- the record d, the array a and the output o are those that the run came with
 pub record Held (d : Device) (a samples o : List ℕ) (i : ℕ) (array output sent : List ℕ) (device : Device) (missing before : ℕ) (holding : Bool) (u : Underway) : Type 0 where

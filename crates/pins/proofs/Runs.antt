@@ -6,10 +6,11 @@ use mathlib.Core.List.{List, [], _∷_}
 use mathlib.Core.Logic.{_⊎_, inl, inr, ⊎-elim}
 use Prim.Native.Nat.{ℕ, zero, suc, _≤_, _<_}
 use borrow.Author.Tests.{eqb-true, eq-eqb, ne-eqb, ltb-true, ltb-false, lt-ltb, not-false}
-use lib.Dec.{eqb, ltb}
+use lib.Dec.{eqb, ltb, lit≤}
 use lib.ListN.{length, take}
 use Rattle.slices.specs.Changed.{mapAt, window}
-use Rattle.slices.proofs.Choices.{past}
+use Rattle.slices.proofs.Choices.{past, zero-ind}
+use Rattle.memory.specs.Missing.{mostMissing}
 use Rattle.parts.specs.Parts.{figuresOf}
 use Rattle.device.specs.declared.Device.{Device}
 use Rattle.device.specs.Device.{sound, onZero}
@@ -17,8 +18,9 @@ use Rattle.chip.specs.declared.Done.{Done}
 use Rattle.chip.specs.Outcome.{bare}
 use Rattle.pins.specs.declared.Tally.{Tally}
 use Rattle.pins.specs.Pins.{levelsOf, nextTaking, Seen, atRest, step, seenFrom, seen, oddSamples, tooLong}
-use Rattle.pins.specs.Run.{chipAfter, missedIn, outputAt, runAnswer, answerOf, Ran}
+use Rattle.pins.specs.Run.{chipAfter, outputAt, runAnswer, answerOf, Ran}
 use Rattle.pins.specs.Counted.{CarriedAll}
+use Rattle.pins.proofs.Carried.{missed-most}
 
 -- no refusal: every test passed
 pub record Accepted (d : Device) (array : ℕ) (samples : List ℕ) (output : ℕ) : Type 0 where
@@ -89,14 +91,24 @@ kept : {A : Type 0} (k : ℕ) (x y : A) → (k ≡ 0 → ⊥) → y ≡ onZero k
 kept zero x y n = absurd (n refl)
 kept (suc k) x y n = refl
 
+-- a number that is not 0 answers alone
+pub answer-bare : (k : ℕ) (d : Device) (array samples : List ℕ) → (k ≡ 0 → ⊥) → bare k ≡ answerOf k d array samples
+unfolding answerOf
+answer-bare zero d array samples n = absurd (n refl)
+answer-bare (suc k) d array samples n = refl
+
+-- no answer has more than 2,048 bits missing
+pub answer-few : (k : ℕ) (d : Device) (array samples : List ℕ) → answerOf k d array samples .missing ≤ mostMissing
+unfolding answerOf
+answer-few k d array samples = zero-ind (λ (n : ℕ). n ≤ mostMissing) k (missed-most d array samples) (lit≤ tt)
+
 -- refused: nothing changes
 pub refused : (d : Device) (array samples output : List ℕ) (k : ℕ) → k ≡ runAnswer d (length array) samples (length output) → (k ≡ 0 → ⊥) → {r : Done} → r .answer ≡ bare k → r .device ≡ d
     → Ran d array samples output r array output
-unfolding answerOf
 refused d array samples output k e n a m =
     let z : runAnswer d (length array) samples (length output) ≡ 0 → ⊥ = λ w. n (e ∙ w) in
     record {
-      answer = a ∙ (ap (λ (n : ℕ). record { number = k; first = 0; count = 0; missing = n }) (kept k (missedIn d array samples) 0 n) ∙ ap (λ (j : ℕ). answerOf j d array samples) e);
+      answer = a ∙ (answer-bare k d array samples n ∙ ap (λ (j : ℕ). answerOf j d array samples) e);
       device = m ∙ kept (runAnswer d (length array) samples (length output)) (chipAfter d array samples .device) d z;
       memory = kept (runAnswer d (length array) samples (length output)) (chipAfter d array samples .array) array z;
       shown = kept (runAnswer d (length array) samples (length output)) (mapAt (window 0 (length samples) (outputAt d array samples)) output) output z;

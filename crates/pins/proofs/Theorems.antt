@@ -21,15 +21,15 @@ use Rattle.chip.specs.declared.Answer.{Answer}
 use Rattle.chip.specs.declared.Done.{Done}
 use Rattle.chip.specs.Answers.{hostNumber}
 use Rattle.chip.specs.Outcome.{transacted}
-use Rattle.chip.specs.Events.{Good, sends}
+use Rattle.chip.specs.Events.{Good, sends, missed}
 use Rattle.chip.proofs.Events.{after-sound, after-length, after-good, no-refusal}
 use Rattle.chip.proofs.Lines.{LineIs, line-is-driven}
 use Rattle.pins.specs.declared.levels.Levels.{Levels}
 use Rattle.pins.specs.Pins.{levelsOf, Pins, ends, Transaction, anew, nextTaking, nextFound, Seen, atRest, step, seenFrom, seen, tooLong}
-use Rattle.pins.specs.Run.{Chip, carriedOut, carriedAll, chipAfter, outputAfter, outputAt, runAnswer, answerOf, Ran}
+use Rattle.pins.specs.Run.{Chip, carriedOut, eventsOf, carriedAll, chipAfter, missedIn, outputAfter, outputAt, runAnswer, answerOf, Ran}
 use Rattle.pins.proofs.Seen.{seen-ind, from-append, few-next, neither}
-use Rattle.pins.proofs.Carried.{ending, missed-most}
-use Rattle.pins.proofs.Runs.{accepted}
+use Rattle.pins.proofs.Carried.{ending}
+use Rattle.pins.proofs.Runs.{accepted, answer-few}
 
 -- ---- a run that is not refused
 
@@ -42,6 +42,11 @@ module _ {d : Device} {array samples output : List ℕ} {r : Done} {array′ out
   pub run-carries : (r .device ≡ carriedAll (record { device = d; array = array }) (seen samples .found) .device) × (array′ ≡ carriedAll (record { device = d; array = array }) (seen samples .found) .array)
   unfolding chipAfter
   run-carries = (ran .device ∙ rw answers, ran .memory ∙ rw answers)
+
+  -- its bits missing are the sum over them
+  pub run-misses : r .answer .missing ≡ missed (eventsOf (seen samples .found)) (record { device = d; array = array })
+  unfolding answerOf missedIn
+  run-misses = ap (λ (a : Answer). a .missing) (ran .answer) ∙ rw answers
 
   -- output byte i is the output after the first i + 1 samples
   pub run-shows : (i : ℕ) → i < length samples → getD output′ i 0 ≡ outputAfter d array (take (i + 1) samples)
@@ -94,8 +99,7 @@ module _ {d : Device} {array samples output : List ℕ} {r : Done} {array′ out
 
   -- at most 2,048 bits are missing, refused or not
   pub run-few : r .answer .missing ≤ mostMissing
-  unfolding answerOf
-  run-few = rw (ran .answer) (zero-ind (λ (n : ℕ). n ≤ mostMissing) (runAnswer d (length array) samples (length output)) (missed-most d array samples) (lit≤ tt))
+  run-few = rw (ran .answer) (answer-few (runAnswer d (length array) samples (length output)) d array samples)
 
   -- array and output keep their lengths
   pub run-lengths : (length array′ ≡ length array) × (length output′ ≡ length output)

@@ -35,10 +35,6 @@ carriedAll c ts = chip.run (eventsOf ts) c
 unfoldable pub chipAfter : Device → List ℕ → List ℕ → Chip
 chipAfter d array samples = carriedAll (record { device = d; array = array }) (seen samples .found)
 
--- the bits missing in one transaction
-abbrev pub missedBy : Chip → Transaction → ℕ
-missedBy c t = chip.reply (chip.sends (t .sent) (t .pulses) (t .w)) c .answer .missing
-
 -- the bits missing after these samples: the sum over the transactions carried out
 unfoldable pub missedIn : Device → List ℕ → List ℕ → ℕ
 missedIn d array samples = chip.missed (eventsOf (seen samples .found)) (record { device = d; array = array })

@@ -93,9 +93,9 @@ fn run_number(device: Device, array: usize, samples: &[u8], output: usize) -> u8
 }
 
 // A record after transactions, and the bits missing in them.
-pub struct Tally {
-    pub device: Device,
-    pub missing: u32,
+struct Tally {
+    device: Device,
+    missing: u32,
 }
 
 // Carries out the transaction under way, if it ends with this sample; `was` are the levels before it.

@@ -1,6 +1,5 @@
 -- What stands at the edges told a second time, and computed: spans as the code finds them, addresses with bytes missing, words at their borders, and a read where there is no array.
 use mathlib.Core.Path.{_≡_, refl}
-use mathlib.Core.Bool.{true, false}
 use mathlib.Core.List.{List, [], _∷_, map}
 use Prim.Native.Nat.{ℕ}
 use Rattle.slices.specs.Bytes.{word, wordAt}
@@ -10,7 +9,7 @@ use Rattle.chip.specs.declared.table.Drive.{Drive}
 use Rattle.chip.specs.declared.table.Drive.the-variants.{Nothing, Identification, Status, Array, Signature}
 use Rattle.chip.specs.declared.line.Span.{Span}
 use Rattle.chip.specs.Table.{rowOf, addressOf}
-use Rattle.chip.specs.Line.{Driven, silent, drives, byRow, heard, heardRow, driven, spanOf}
+use Rattle.chip.specs.Line.{silent, drives, byRow, heard, heardRow, driven, spanOf}
 use Rattle.chip.specs.Worked.{usual}
 
 -- first and count, one after the other

@@ -1,6 +1,6 @@
 -- The bits missing told a second time, and computed: bit by bit, slot by slot, page by page, by kind of cycle, and in whole calls on the bench part.
 use mathlib.Core.Path.{_≡_, refl}
-use mathlib.Core.Bool.{true, false}
+use mathlib.Core.Bool.{true}
 use mathlib.Core.List.{List, [], _∷_, _++_, map}
 use Prim.Native.Nat.{ℕ}
 use lib.Count.{onesIn, ones}
@@ -10,7 +10,6 @@ use Rattle.memory.specs.Memory as memory-is
 use Rattle.memory.specs.Missing.{unmet, missingAt, missing, pageOf}
 use Rattle.parts.specs.Parts.{figuresOf}
 use Rattle.parts.specs.Protected.{protectedOf}
-use Rattle.device.specs.declared.Device.{Device}
 use Rattle.device.specs.declared.cycle.Kind.the-variants.{Settings, Page, Sector, All}
 use Rattle.device.specs.Cycles.{noSlots, touched}
 use Rattle.device.specs.Device.{waitCall, powerUpCall, soundAnswer, waited, poweredUp, sound, statusByte, moded, latched, settled, running, latchAt}
@@ -20,10 +19,10 @@ use Rattle.chip.specs.Table.{rowOf, addressOf}
 use Rattle.chip.specs.Answers.{hostNumber, inProtected, asNeeded, chipNumber, decided, verdictOf}
 use Rattle.chip.specs.Line.{byRow, heard, heardRow, driven, lined, drivingAt, firstOf, countOf}
 use Rattle.chip.specs.Change.{cycleOf, changed, missingOf, bpIn, turned}
-use Rattle.chip.specs.Outcome.{outcomeOf, transacted, bare}
-use Rattle.chip.specs.Events.{Chip, Event, waits, starts, sent, missed}
+use Rattle.chip.specs.Outcome.{outcomeOf, transacted}
+use Rattle.chip.specs.Events.{waits, starts, sent, missed}
 use Rattle.chip.specs.Events as chip
-use Rattle.chip.specs.Worked.{Step, holds, sees, fresh, usual, told, answers, misses, reads}
+use Rattle.chip.specs.Worked.{holds, sees, fresh, usual, told, answers, misses, reads}
 use Rattle.chip.specs.Worked as worked
 
 -- bytes of one value, then one other

@@ -7,7 +7,7 @@
 
 #include "m25p.h"
 
-enum { MOST_POINTERS = 4, MOST_NUMBERS = 7, ROOM = 262144 };
+enum { MOST_POINTERS = 4, MOST_NUMBERS = 7, ROOM = 262144, CLOCKED = 83 };
 
 /* What a call is given: its pointers and its numbers, lengths among them, each in the header's order. Every
  * pointer has a room of its own, larger than any length below, so that no exchange leads out of it. */
@@ -119,7 +119,7 @@ static int right_power_up(const struct call *call)
 }
 
 /* A transaction of five bytes from this sample on, then Select high: 40 clock pulses of two samples, with
- * half a pulse around. The sample behind it. */
+ * half a pulse around, CLOCKED samples in all. The sample behind it. */
 static size_t clocked(size_t at, const uint8_t *sent)
 {
     const uint8_t low = M25P_PIN_W | M25P_PIN_HOLD;
@@ -144,7 +144,7 @@ static void prepare_pins(struct call *call)
 }
 
 /* The byte is 5A, its bits show from the fall behind the 32nd rise on. FF over it misses four bits, and it
- * stays; the last READ is ignored. */
+ * stays; the last READ is ignored, so that nothing is driven from the program on. */
 static int right_pins(const struct call *call)
 {
     const uint8_t *output = room[3];
@@ -152,9 +152,12 @@ static int right_pins(const struct call *call)
     for (int bit = 0; bit < 8; bit++)
         if (output[65 + 2 * bit] != (0x5A >> (7 - bit) & 1))
             return 0;
+    for (size_t i = CLOCKED; i < 3 * CLOCKED; i++)
+        if (output[i] != M25P_NOT_DRIVEN)
+            return 0;
     if (m25p_missing(call->answer) != 4 || call->answer << 16 != 0 || room[1][0] != 0x5A || room[0][4] != 1)
         return 0;
-    return output[64] == 2 && output[n - 1] == 2 && output[n] == 0x5C;
+    return n == 3 * CLOCKED && output[64] == M25P_NOT_DRIVEN && output[n] == 0x5C;
 }
 
 static void run(struct call *call, int i, int j, int of_pointers)

@@ -1,6 +1,6 @@
 /* boundary.c - the C calls at their limits: empty slices with and without an address, lengths beyond 32
  * bits, full 32-bit numbers, rewrites without an erase, every part. Prints one line for each call: its name,
- * answer number, first, count and missing bits; of each part one line: the answers of delivery, RDID and
+ * answer number, first, count and bits missing; of each part one line: the answers of delivery, RDID and
  * RES, and what the two drive. */
 #define _GNU_SOURCE
 #include <stdio.h>
@@ -140,6 +140,7 @@ static uint64_t program(unsigned address, uint8_t value, size_t n)
     uint64_t answer;
     send(enable, 1, 0, 1, response, 1);
     sent[0] = 0x02;
+    sent[1] = (uint8_t)(address >> 16);
     sent[2] = (uint8_t)(address >> 8);
     sent[3] = (uint8_t)address;
     memset(sent + 4, value, n);

@@ -6,5 +6,6 @@ int main()
     uint8_t record[M25P_RECORD_BYTES] = {};
     uint64_t answer = m25p_wait(record, sizeof record, 1);
     bool refused = m25p_answer(answer) == M25P_RECORD_UNSOUND;
-    return refused && m25p_first(answer) == 0 && m25p_count(answer) == 0 ? 0 : 1;
+    bool alone = m25p_first(answer) == 0 && m25p_count(answer) == 0 && m25p_missing(answer) == 0;
+    return refused && alone ? 0 : 1;
 }

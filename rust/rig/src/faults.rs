@@ -53,7 +53,15 @@ pub const CHIP: &[(&str, &dyn Model)] = named![
     CountsReplacedBytes,
     CountsTheFirstByte,
     SentBlankWantsNothing,
-    CountsWhenProtected,
+    CountsInTheNextPage,
+    CountsBytes,
+    CountsErased(SE),
+    CountsErased(BE),
+    CountsIgnored(12),
+    CountsIgnored(13),
+    CountsIgnored(15),
+    CountsIgnored(16),
+    CountsIgnored(17),
 ];
 
 /// Changes a packed record that is sound.
@@ -413,10 +421,51 @@ impl Model for SentBlankWantsNothing {
     }
 }
 
-/// A program in a protected sector is counted all the same.
-struct CountsWhenProtected;
+/// The count runs on into the next page in place of wrapping.
+struct CountsInTheNextPage;
 
-impl Model for CountsWhenProtected {
+impl Model for CountsInTheNextPage {
+    fn missing(&self, array: &[u8], address: usize, data: &[u8]) -> u32 {
+        let at = |k: usize| (address + k % 256) % array.len();
+        let last = data.len().saturating_sub(256)..data.len();
+        last.map(|k| Paper.missing(array, at(k), &data[k..=k])).sum()
+    }
+}
+
+/// Bytes are counted, not bits.
+struct CountsBytes;
+
+impl Model for CountsBytes {
+    fn unmet(&self, wanted: u8, before: u8, bit: u32) -> bool {
+        bit == 0 && (0..8).any(|bit| Paper.unmet(wanted, before, bit))
+    }
+}
+
+/// The zeros under an erase of this code are counted.
+struct CountsErased(u8);
+
+impl Model for CountsErased {
+    fn transact(
+        &self,
+        record: &mut [u8],
+        array: &mut [u8],
+        t: Transaction,
+        response: &mut [u8],
+    ) -> Outcome {
+        let zeros = |bytes: &[u8]| bytes.iter().map(|byte| byte.count_zeros()).sum::<u32>();
+        let before = zeros(array);
+        let mut outcome = Paper.transact(record, array, t, response);
+        if outcome.answer == 0 && t.sent[0] == self.0 {
+            outcome.missing = (before - zeros(array)).min(0xFFFF);
+        }
+        outcome
+    }
+}
+
+/// A program that is ignored with this number is counted all the same.
+struct CountsIgnored(u8);
+
+impl Model for CountsIgnored {
     fn transact(
         &self,
         record: &mut [u8],
@@ -425,7 +474,7 @@ impl Model for CountsWhenProtected {
         response: &mut [u8],
     ) -> Outcome {
         let mut outcome = Paper.transact(record, array, t, response);
-        if outcome.answer == 17 && t.sent[0] == PP {
+        if outcome.answer == self.0 && t.sent[0] == PP && t.sent.len() > 4 {
             let at = full_address(t.sent) % array.len();
             outcome.missing = Paper.missing(array, at, &t.sent[4..]);
         }

@@ -185,7 +185,7 @@ impl Generator {
         if code == WRSR {
             sent[1] = self.rng.byte();
         }
-        let mut sent = self.stretched(std::mem::take(&mut sent), n);
+        let mut sent = self.stretched(sent, n);
         if code == PP && self.rng.one_in(3) {
             self.uneven(&mut sent[n.min(4)..]);
         }
@@ -197,7 +197,7 @@ impl Generator {
     fn uneven(&mut self, data: &mut [u8]) {
         match self.rng.below(4) {
             0 => data.fill(0xFF),
-            1 => data.fill(self.rng.pick(&[0x00, 0x01, 0x80])),
+            1 => data.fill(self.rng.pick(&[0x00, 0x00, 0x01, 0x80])),
             2 => data.iter_mut().for_each(|byte| *byte |= self.rng.byte() | self.rng.byte()),
             _ => data.iter_mut().for_each(|byte| *byte &= self.rng.byte() & self.rng.byte()),
         }

@@ -62,9 +62,9 @@ impl PinsGenerator {
             return self.rng.bytes(n).iter().map(|byte| byte & 0x1F).collect();
         }
         let plans = self.plans(from);
-        // A long transaction seldom gets through unless it is clocked cleanly.
+        // A long transaction seldom gets through unless it is clocked cleanly: three in four are.
         let long = plans.iter().any(|plan| plan.sent.len() > 256);
-        let kind = if long { 0 } else { self.rng.below(4) };
+        let kind = if long { self.rng.pick(&[0, 0, 0, 1]) } else { self.rng.below(4) };
         match kind {
             0 => self.clocked(&plans),
             1 => {
@@ -115,9 +115,10 @@ impl PinsGenerator {
         probe.samples
     }
 
-    /// Clean samples with others put in between, changed or left out, more or less densely.
+    /// Clean samples with others put in between, changed or left out, more or less densely, or in a few places.
     fn disturbed(&mut self, clean: &[u8]) -> Vec<u8> {
-        let seldom = self.rng.pick(&[4, 20, 100, 400]);
+        let few = 1 + clean.len() / 4;
+        let seldom = self.rng.pick(&[4, 20, 100, 400, few, few]);
         let mut samples = Vec::new();
         let mut flipped = 0;
         for sample in clean {

@@ -1,5 +1,5 @@
 //! The model on the worked cases K1 to K15, on cycles of one tick, on the latch of a sound busy record, on
-//! missing bits and on the older M25P10-A; and the bench model on the worked example.
+//! bits missing and on the older M25P10-A; and the bench model on the worked example.
 
 use rig::bench_model::{self, Line};
 use rig::model::{Mode, Model, Outcome, Packed, Paper, Record, Transaction};
@@ -197,16 +197,22 @@ fn missing_of_nothing_else() {
     let protected = Record { bp: 3, ..worked() };
     let reset = Record { latch: false, ..worked() };
     let busy = Record { mode: Mode::Busy(2), ..worked() };
-    let program = [0x02, 0, 0, 0, 0xFF];
-    for (record, answer) in [(protected, 17), (reset, 16), (busy, 12)] {
+    let deep = Record { mode: Mode::Deep, ..worked() };
+    let run_over_zeros = |record: Record, sent: &[u8], pulses: u32| {
         let mut chip = case(record);
         chip.array.fill(0x00);
-        assert_eq!(chip.run(&program, 0, 1), Outcome::only(answer));
+        chip.run(sent, pulses, 1)
+    };
+    let program = [0x02, 0, 0, 0, 0xFF];
+    for (record, answer) in [(protected, 17), (reset, 16), (busy, 12), (deep, 13)] {
+        assert_eq!(run_over_zeros(record, &program, 0), Outcome::only(answer));
     }
-    for sent in [&[0xD8, 0, 0, 0][..], &[0xC7], &[0x01, 0xFF], &[0x06], &program[..4]] {
-        let mut chip = case(worked());
-        chip.array.fill(0x00);
-        assert_eq!(chip.run(sent, 0, 1).missing, 0, "{sent:02X?}");
+    assert_eq!(run_over_zeros(worked(), &program, 1), Outcome::only(15), "a further pulse");
+    assert_eq!(run_over_zeros(worked(), &program[..4], 0), Outcome::only(15), "no data");
+    let read = [0x03, 0, 0, 0, 0xFF];
+    for sent in [&[0xD8, 0, 0, 0][..], &[0xC7], &[0x01, 0xFF], &[0x06], &[0x05, 0xFF], &read] {
+        let outcome = run_over_zeros(worked(), sent, 0);
+        assert_eq!((outcome.answer, outcome.missing), (0, 0), "{sent:02X?}");
     }
 }
 

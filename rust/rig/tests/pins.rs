@@ -52,6 +52,7 @@ fn runs_equal_model() {
     }
     let ends = [tally.pins.carried_out, tally.pins.thrown_away, tally.pins.unfinished];
     assert!(ends.into_iter().all(|times| times >= 20), "an end came too seldom");
+    assert!(tally.pins.long_held >= 20, "a long transaction was held too seldom");
     assert_eq!(tally.programs.seldom(20), [""; 0], "programs that came too seldom");
 }
 

@@ -296,7 +296,7 @@ fn no_ticks_pass_within_a_run() {
 
 /// The bits missing are those of the one program that is executed, whatever comes behind it.
 #[test]
-fn missing_bits_are_handed_up() {
+fn bits_missing_are_handed_up() {
     let program = |data: &[u8]| format!("s {}S ", clocked(&[&[0x02, 0, 0, 0], data].concat()));
     let enable = format!("s {}S ", clocked(&[0x06]));
     let words = enable.clone() + &program(&[0xFF, 0xFC, 0xFF]) + &program(&[0xFF]) + &enable;

@@ -1,4 +1,5 @@
-//! All that flashrom asks of the server, asked of the model. Where flashrom is not on the machine, the test says so.
+//! Traces of the server, asked of the model: all that flashrom asks for, and random programs without an erase. Where
+//! flashrom is not on the machine, its tests say so.
 
 #[path = "../../tools/tests/support/common.rs"]
 #[allow(dead_code)]
@@ -6,10 +7,10 @@ mod common;
 #[path = "../../tools/tests/support/flashrom.rs"]
 #[allow(dead_code)]
 mod flashrom;
+#[path = "../../tools/tests/support/told.rs"]
+mod told;
 
-use std::io::{self, Write};
 use std::sync::atomic::{AtomicBool, Ordering};
-use std::sync::{Arc, Mutex};
 use std::thread;
 
 use common::scratch;
@@ -17,21 +18,8 @@ use flashrom::{find, tell, Flashrom};
 use m25p::{Part, RECORD_BYTES};
 use rig::model::{Model, Paper, Transaction};
 use rig::rng::Rng;
+use told::Told;
 use tools::serprog::{Board, Options, Server};
-
-/// What the server writes down.
-#[derive(Clone, Default)]
-struct Trace(Arc<Mutex<Vec<u8>>>);
-
-impl Write for Trace {
-    fn write(&mut self, bytes: &[u8]) -> io::Result<usize> {
-        self.0.lock().unwrap().write(bytes)
-    }
-
-    fn flush(&mut self) -> io::Result<()> {
-        Ok(())
-    }
-}
 
 /// The trace of a probe and a write, from one image to another; none without flashrom.
 fn traced(name: &str, part: Part, old: &[u8], new: &[u8]) -> Option<String> {
@@ -41,7 +29,7 @@ fn traced(name: &str, part: Part, old: &[u8], new: &[u8]) -> Option<String> {
     std::fs::write(&image, old).unwrap();
     let options = Options { image: Some(image.clone()), ..Options::of(part) };
     let mut server = Server::start(&options).unwrap();
-    let trace = Trace::default();
+    let trace = Told::default();
     server.trace(Box::new(trace.clone()));
     let flashrom = Flashrom { program, directory, port: server.address().unwrap().port() };
     let stop = AtomicBool::new(false);
@@ -54,8 +42,7 @@ fn traced(name: &str, part: Part, old: &[u8], new: &[u8]) -> Option<String> {
     });
     ended.into_iter().for_each(|(fine, said)| assert!(fine, "{said}"));
     assert!(std::fs::read(&image).unwrap() == new, "the image");
-    let trace = trace.0.lock().unwrap().clone();
-    Some(String::from_utf8(trace).unwrap())
+    Some(trace.text())
 }
 
 /// Carries a line of the trace out on the model: what should stand behind the `=`.
@@ -107,27 +94,50 @@ fn same_answers(name: &str, part: Part, old: &[u8], new: &[u8]) {
     tell(&format!("trace: {name}: {transactions} transactions, the same answers from the model"));
 }
 
-/// Random programs without an erase: the bits missing in the trace are the model's.
+/// A random program of the M25P40 in one of 64 pages; half the addresses are beyond its size.
+fn random_program(rng: &mut Rng) -> Vec<u8> {
+    let length = 5 + rng.pick(&[0, 2, 255, 400]);
+    let mut program = rng.bytes(length);
+    let page = [rng.pick(&[0x00, 0x07, 0x08, 0xFF]), rng.byte() & 0x1F];
+    program[..3].copy_from_slice(&[0x02, page[0], page[1]]);
+    program
+}
+
+/// The programs of a trace that have bits missing: the first byte of the address, and how many.
+fn missing_in(printed: &str) -> Vec<(u8, u32)> {
+    let programs = printed.lines().filter_map(|line| line.strip_prefix("x 1 0 02"));
+    let missing = programs.filter_map(|line| {
+        let (sent, missing) = line.split_once(" missing ")?;
+        Some((u8::from_str_radix(&sent[..2], 16).unwrap(), missing.parse().unwrap()))
+    });
+    missing.collect()
+}
+
+/// Random programs without an erase: the bits missing in the trace are the model's. Over a page the random bytes
+/// miss some 512 bits the first time, 768 the second, and up to 1,024 when nothing is left to clear.
 #[test]
 fn trace_of_rewrites_equals_model() {
-    let (part, mut rng, trace) = (Part::M25p40, Rng::new(14), Trace::default());
+    let (part, mut rng, trace) = (Part::M25p40, Rng::new(14), Told::default());
     let old = rng.bytes(part.bytes());
     let mut board = Board::new(&Options::of(part));
     board.fill(&old);
     board.trace(Box::new(trace.clone()));
     for _ in 0..300 {
-        let length = 5 + rng.pick(&[0, 2, 255, 400]);
-        let mut program = rng.bytes(length);
-        program[..3].copy_from_slice(&[0x02, 0x00, 0x01]);
-        for sent in [vec![0x06], program] {
+        for sent in [vec![0x06], random_program(&mut rng)] {
             board.operate(sent, 0);
         }
         board.delay(2_000);
     }
-    let printed = String::from_utf8(trace.0.lock().unwrap().clone()).unwrap();
+    let printed = trace.text();
     assert!(modelled(part, &old, &printed) == board.array());
-    let missing = printed.lines().filter(|line| line.contains(" missing ")).count();
-    assert!(missing > 200, "only {missing} programs with bits missing");
+    let all = missing_in(&printed);
+    let beyond = all.iter().filter(|(high, _)| *high >= 0x08).count();
+    let within = all.len() - beyond;
+    assert!(beyond > 100 && within > 100, "addresses beyond the size {beyond}, within {within}");
+    for numbers in [1..100, 400..640, 640..840, 840..1_200] {
+        let times = all.iter().filter(|(_, missing)| numbers.contains(missing)).count();
+        assert!(times >= 20, "{numbers:?} bits were missing {times} times only");
+    }
 }
 
 #[test]

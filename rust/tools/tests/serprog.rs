@@ -1,4 +1,5 @@
-//! The serprog server as a process: bad peers, one client after another, the image, and refusals to start.
+//! The serprog server as a process: bad peers, one client after another, the image, the trace, the warning of a
+//! missing erase, and refusals to start.
 
 mod support;
 

@@ -1,10 +1,14 @@
-//! The serprog protocol without a network: each command's answer, the limits, time, and the options.
+//! The serprog protocol without a network: each command's answer, the limits, time, bits missing in trace and
+//! warning, and the options.
+
+#[path = "support/told.rs"]
+mod told;
 
 use std::ffi::OsString;
 use std::io::{self, Cursor, ErrorKind, Read, Write};
-use std::sync::{Arc, Mutex};
 
 use m25p::Part;
+use told::Told;
 use tools::serprog::*;
 
 /// A client that has said all it will say.
@@ -192,27 +196,6 @@ fn settings_at_start() {
     }
 }
 
-/// What a board writes down.
-#[derive(Clone, Default)]
-struct Told(Arc<Mutex<Vec<u8>>>);
-
-impl Told {
-    /// All of it so far.
-    fn text(&self) -> String {
-        String::from_utf8(self.0.lock().unwrap().clone()).unwrap()
-    }
-}
-
-impl Write for Told {
-    fn write(&mut self, bytes: &[u8]) -> io::Result<usize> {
-        self.0.lock().unwrap().write(bytes)
-    }
-
-    fn flush(&mut self) -> io::Result<()> {
-        Ok(())
-    }
-}
-
 /// Write enable and a program, whose cycle is over then.
 fn program(board: &mut Board, address: u32, data: &[u8]) {
     let sent = [&[0x02], &address.to_be_bytes()[1..], data].concat();
@@ -222,7 +205,7 @@ fn program(board: &mut Board, address: u32, data: &[u8]) {
 
 /// A program's line ends with the bits missing, if there are any.
 #[test]
-fn trace_of_missing_bits() {
+fn trace_of_bits_missing() {
     let (board, told) = (&mut board(), Told::default());
     board.trace(Box::new(told.clone()));
     program(board, 0x1FE, &[0x00, 0x00, 0x00]);

@@ -1,10 +1,6 @@
 -- `memory::missing` meets its contract.
-use mathlib.Core.Path.{_≡_, ap, _∙_}
-use mathlib.Core.List.{List}
-use Prim.Native.Nat.{ℕ, _≤_}
-use lib.ListN.{length, getD}
-use Rattle.slices.specs.Changed.{sumAt}
-use Rattle.memory.specs.Missing.{unmet, pageOf}
+use mathlib.Core.Path.{_∙_}
+use Rattle.memory.specs.Missing.{pageOf}
 use Rattle.memory.proofs.Unmet.{missing-is, page-lent, page-few}
 use borrow.Author.Needs.{needs}
 use Rattle.memory.proofs.missing.Statement.{statement}

@@ -2,7 +2,7 @@
 
 use super::{Call, Seen, Step};
 use crate::model::{full_address, CODES, PP};
-use crate::pins_model::{End, NOT_DRIVEN};
+use crate::pins_model::{End, HOLD, NOT_DRIVEN};
 
 /// Counts by number.
 pub type Counts = [u64; 256];
@@ -18,7 +18,7 @@ pub struct Tally {
 }
 
 /// Programs executed, singly and in runs: those with bits missing, among them those of a kind, and those with
-/// none missing over a page that was not blank.
+/// none missing though there were zeros where the data went.
 #[derive(Debug, Default)]
 pub struct Programs {
     pub missing: u64,
@@ -44,13 +44,17 @@ pub struct PinsTally {
     pub carried_out: u64,
     pub thrown_away: u64,
     pub unfinished: u64,
+    /// Of more than 256 bytes, with Hold low at some time.
+    pub long_held: u64,
 }
 
 impl Default for Tally {
     fn default() -> Tally {
         let chip = [0; 256];
-        let (samples, driven, carried_out, thrown_away, unfinished) = (0, 0, 0, 0, 0);
-        let pins = PinsTally { samples, driven, chip, carried_out, thrown_away, unfinished };
+        let (samples, driven, long_held) = (0, 0, 0);
+        let (carried_out, thrown_away, unfinished) = (0, 0, 0);
+        let pins =
+            PinsTally { samples, driven, chip, carried_out, thrown_away, unfinished, long_held };
         let programs = Programs::default();
         Tally { calls: 0, answers: [0; 256], executed: [0; 256], programs, pins }
     }
@@ -97,18 +101,19 @@ impl Programs {
         }
         let at = full_address(sent) % before.len();
         let (page, data) = (&before[at / 256 * 256..][..256], &sent[4..]);
+        let reached = |slot: usize| (slot + 256 - at % 256) % 256 < data.len();
+        let mut zeros = (0..256).filter(|slot| page[*slot] != 0xFF);
         if missing == 0 {
-            self.none_missing += u64::from(page.iter().any(|byte| *byte != 0xFF));
+            self.none_missing += u64::from(zeros.any(reached));
             return;
         }
         let (short, ends) = (data.len() <= 256, at % 256 + data.len());
-        let spared = |i: usize| (i + 256 - at % 256) % 256 >= data.len() && page[i] != 0xFF;
         self.missing += 1;
         self.single += u64::from(data.len() == 1);
         self.wrapped += u64::from(short && ends > 256);
         self.long += u64::from(!short);
         self.all_ff += u64::from(data.iter().all(|byte| *byte == 0xFF));
-        self.spared += u64::from((0..256).any(spared));
+        self.spared += u64::from(zeros.any(|slot| !reached(slot)));
     }
 
     /// Counts the programs that a run executed.
@@ -128,7 +133,7 @@ impl Programs {
             (self.long, "more than 256 bytes with bits missing"),
             (self.all_ff, "FF alone with bits missing"),
             (self.spared, "bits missing, and zeros where no data went"),
-            (self.none_missing, "none missing over a page that was not blank"),
+            (self.none_missing, "none missing, and zeros where data went"),
         ];
         kinds.into_iter().filter(|(count, _)| *count < times).map(|(_, kind)| kind).collect()
     }
@@ -138,7 +143,7 @@ impl Programs {
         format!(
             "programs with bits missing {missing}, of one byte {single}, wrapping {wrapped}, above 256 \
              bytes {long}, of FF alone {all_ff}, with zeros elsewhere {spared}; with none missing over \
-             a page not blank {none_missing}"
+             zeros {none_missing}"
         )
     }
 }
@@ -155,6 +160,8 @@ impl PinsTally {
                 End::ThrownAway => self.thrown_away += 1,
                 End::Unfinished => self.unfinished += 1,
             }
+            let held = samples[found.from..found.to].iter().any(|sample| sample & HOLD == 0);
+            self.long_held += u64::from(held && found.bits.len() > 8 * 256);
         }
         if seen.answer() == 0 {
             let driven = output[..samples.len()].iter().filter(|byte| **byte != NOT_DRIVEN);
@@ -163,10 +170,12 @@ impl PinsTally {
     }
 
     fn show(&self) -> String {
-        let PinsTally { samples, driven, carried_out, thrown_away, unfinished, .. } = self;
+        let PinsTally { samples, driven, carried_out, thrown_away, unfinished, long_held, .. } =
+            self;
         format!(
             "{samples} samples, {driven} of them driven; transactions {carried_out} carried out, \
-             {thrown_away} thrown away, {unfinished} unfinished; the chip's numbers {}",
+             {thrown_away} thrown away, {unfinished} unfinished, above 256 bytes and held {long_held}; \
+             the chip's numbers {}",
             listed(&self.chip)
         )
     }

@@ -36,6 +36,7 @@ pub const SHORT: &[(&str, &dyn PinsModel)] = named![
     UnfinishedCarriedOut,
     TicksPass,
     LastMissingAlone,
+    MissingNotHandedUp,
     Afterwards(tells_ignored),
     Afterwards(output_beyond_samples),
     Afterwards(refusal_writes_output),
@@ -69,7 +70,7 @@ as_the_paper![PinsModel: DrivesInHold, SilentAfterHold, MovesOnRise, OneFallLate
 as_the_paper![Walking: ShowsLowBitFirst, OutputKeptAtSelect, UnfinishedByteSilent, ShowsTheFirstRecord];
 as_the_paper![Walking: PulsesDropped, UnfinishedCarriedOut, TicksPass, Afterwards, BitSevenAllowed];
 as_the_paper![Walking: RefusesInOrder, NotCounted, PulsesCountAsByte, LongestRefused];
-as_the_paper![Walking: LastMissingAlone];
+as_the_paper![Walking: LastMissingAlone, MissingNotHandedUp];
 
 /// Bytes are shown with their lowest bit first.
 struct ShowsLowBitFirst;
@@ -179,12 +180,21 @@ impl PinsModel for TicksPass {
     }
 }
 
-/// Only the last transaction's missing bits are handed up.
+/// Only the last transaction's bits missing are handed up.
 struct LastMissingAlone;
 
 impl PinsModel for LastMissingAlone {
     fn missing_in_all(&self, chip: &[model::Outcome]) -> u32 {
         chip.last().map_or(0, |outcome| outcome.missing)
+    }
+}
+
+/// A run hands up no bits missing.
+struct MissingNotHandedUp;
+
+impl PinsModel for MissingNotHandedUp {
+    fn missing_in_all(&self, _: &[model::Outcome]) -> u32 {
+        0
     }
 }
 

@@ -1,5 +1,5 @@
 //! The chip on its board: the level of W, and time, which passes by a tick for each transaction and by
-//! delays. Nothing sleeps.
+//! delays. Nothing sleeps. What happens can be traced, and a missing erase be told.
 
 use std::io::Write;
 

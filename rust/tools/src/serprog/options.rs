@@ -33,8 +33,9 @@ serprog --part NAME [option]...   an M25P chip for flashrom, on a loopback port
   --bulk-erase N     ticks of a bulk erase; 10000
   --write-status N   ticks of a status write; 5
   --trace            print each transaction and wait as a line of the bench, with its answer, and
-                     with the bits missing where a program wants bits 1 that are 0
-  --warn-missing     say so on standard error at the first such program: an erase was missing
+                     with the bits missing where an executed program wants bits 1 that are 0
+  --warn-missing     say on standard error that an erase was missing: once, at the first such
+                     program, with its page's address in hexadecimal and the bits missing
 ";
 
 #[derive(Clone, Debug, PartialEq, Eq)]
