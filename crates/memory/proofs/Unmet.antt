@@ -1,4 +1,4 @@
--- Laws of `specs/Missing.antt`: what a latch that is all 00 at first counts, how many bits can be missing, and which slots the data byte-reaches.
+-- Laws of `specs/Missing.antt`: what a latch that is all 00 at first counts, how many bits can be missing, and which slots the data reaches.
 -- Assumes nothing.
 use mathlib.Core.Path.{_≡_, refl, sym, ap, _∙_}
 use mathlib.Core.Bool.{Bool, true, false, cond, _||_, false≢true}

@@ -59,7 +59,7 @@ pub record Told : Type 0 where
   pub most-bits : packedAnswer (record { number = 0; first = 0; count = 0; missing = 2048 }) ≡ 0x0800000000000000
   pub nothing : packedAnswer (record { number = 0; first = 0; count = 0; missing = 0 }) ≡ 0
   -- FF and 0F programmed over 00, and over FF; the same with the latch reset
-  pub missing-bits : answer-on 0x00 set-up (0x02 ∷ 0 ∷ 0 ∷ 0 ∷ 0xFF ∷ 0x0F ∷ []) ∷ answer-on 0xFF set-up (0x02 ∷ 0 ∷ 0 ∷ 0 ∷ 0xFF ∷ 0x0F ∷ []) ∷ answer-on 0x00 (packed 1 0 0 0) (0x02 ∷ 0 ∷ 0 ∷ 0 ∷ 0xFF ∷ 0x0F ∷ []) ∷ [] ≡ 0x000C000000000000 ∷ 0 ∷ 16 ∷ []
+  pub bits-missing : answer-on 0x00 set-up (0x02 ∷ 0 ∷ 0 ∷ 0 ∷ 0xFF ∷ 0x0F ∷ []) ∷ answer-on 0xFF set-up (0x02 ∷ 0 ∷ 0 ∷ 0 ∷ 0xFF ∷ 0x0F ∷ []) ∷ answer-on 0x00 (packed 1 0 0 0) (0x02 ∷ 0 ∷ 0 ∷ 0 ∷ 0xFF ∷ 0x0F ∷ []) ∷ [] ≡ 0x000C000000000000 ∷ 0 ∷ 16 ∷ []
   -- W is low for 0, else high
   pub w : map high (0 ∷ 1 ∷ 2 ∷ 256 ∷ 4294967295 ∷ []) ≡ false ∷ true ∷ true ∷ true ∷ true ∷ []
   pub frozen : sent set-up 4096 (0x01 ∷ 0 ∷ []) 0 0 2 ∷ sent set-up 4096 (0x01 ∷ 0 ∷ []) 0 1 2 ∷ sent set-up 4096 (0x01 ∷ 0 ∷ []) 0 256 2 ∷ [] ≡ 18 ∷ 0 ∷ 0 ∷ []
@@ -92,7 +92,7 @@ unfolding mapAt window sumAt figuresOf protectedOf sound latchAt moded latched s
 told = record {
   bits = refl;
   most-bits = refl;
-  missing-bits = refl;
+  bits-missing = refl;
   nothing = refl;
   w = refl;
   frozen = refl;
