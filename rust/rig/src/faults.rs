@@ -445,20 +445,18 @@ impl Model for CountsBytes {
 struct CountsErased(u8);
 
 impl Model for CountsErased {
-    fn transact(
-        &self,
-        record: &mut [u8],
-        array: &mut [u8],
-        t: Transaction,
-        response: &mut [u8],
-    ) -> Outcome {
-        let zeros = |bytes: &[u8]| bytes.iter().map(|byte| byte.count_zeros()).sum::<u32>();
-        let before = zeros(array);
-        let mut outcome = Paper.transact(record, array, t, response);
-        if outcome.answer == 0 && t.sent[0] == self.0 {
-            outcome.missing = (before - zeros(array)).min(0xFFFF);
+    fn told(&self, r: &Record, array: &[u8], sent: &[u8], number: u8) -> u32 {
+        if number != 0 || sent[0] != self.0 {
+            return Paper.told(r, array, sent, number);
         }
-        outcome
+        let erased = match self.0 {
+            SE => {
+                let size = r.figures().sector_bytes;
+                &array[address(r.figures(), sent) / size * size..][..size]
+            }
+            _ => array,
+        };
+        erased.iter().map(|byte| byte.count_zeros()).sum::<u32>().min(0xFFFF)
     }
 }
 
@@ -466,18 +464,8 @@ impl Model for CountsErased {
 struct CountsIgnored(u8);
 
 impl Model for CountsIgnored {
-    fn transact(
-        &self,
-        record: &mut [u8],
-        array: &mut [u8],
-        t: Transaction,
-        response: &mut [u8],
-    ) -> Outcome {
-        let mut outcome = Paper.transact(record, array, t, response);
-        if outcome.answer == self.0 && t.sent[0] == PP && t.sent.len() > 4 {
-            let at = full_address(t.sent) % array.len();
-            outcome.missing = Paper.missing(array, at, &t.sent[4..]);
-        }
-        outcome
+    fn told(&self, r: &Record, array: &[u8], sent: &[u8], number: u8) -> u32 {
+        let counted = number == self.0 && sent.len() > 4;
+        Paper.told(r, array, sent, if counted { 0 } else { number })
     }
 }

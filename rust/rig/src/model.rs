@@ -105,12 +105,11 @@ pub trait Model: Sync {
         let ignored = self.ignored(&r, t);
         if ignored != 0 {
             response[..t.sent.len()].fill(0xFF);
-            return Outcome::only(ignored);
+            let missing = self.told(&r, array, t.sent, ignored);
+            return Outcome { missing, ..Outcome::only(ignored) };
         }
-        let mut outcome = self.drive(&r, array, t.sent, response);
-        if t.sent[0] == PP {
-            outcome.missing = self.missing(array, address(r.figures(), t.sent), &t.sent[4..]);
-        }
+        let missing = self.told(&r, array, t.sent, 0);
+        let outcome = Outcome { missing, ..self.drive(&r, array, t.sent, response) };
         self.change(&mut r, array, t.sent);
         record.copy_from_slice(&r.pack());
         outcome
@@ -337,6 +336,14 @@ pub trait Model: Sync {
     /// A byte of the page after the program: itself and its slot, bit by bit.
     fn programmed(&self, before: u8, slot: u8) -> u8 {
         before & slot
+    }
+
+    /// The bits missing that an answer of this number tells: those of an executed program.
+    fn told(&self, r: &Record, array: &[u8], sent: &[u8], number: u8) -> u32 {
+        match (number, sent) {
+            (0, [PP, ..]) => self.missing(array, address(r.figures(), sent), &sent[4..]),
+            _ => 0,
+        }
     }
 
     /// The bits that the data wants 1 in the addressed page and the array has 0, slot by slot.

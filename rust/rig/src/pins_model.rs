@@ -44,6 +44,9 @@ impl Outcome {
     }
 }
 
+/// The chip's answer to a transaction, if it was carried out.
+pub type Answered = Option<model::Outcome>;
+
 /// The rules of a run.
 pub trait PinsModel: Walking {
     fn run(
@@ -121,12 +124,7 @@ pub trait PinsModel: Walking {
     }
 
     /// Carries the transaction out, if Select rose outside a hold; the chip's answer.
-    fn carry_out(
-        &self,
-        found: &Found,
-        record: &mut [u8],
-        array: &mut [u8],
-    ) -> Option<model::Outcome> {
+    fn carry_out(&self, found: &Found, record: &mut [u8], array: &mut [u8]) -> Answered {
         let End::Risen { w } = found.end else { return None };
         let sent = found.sent();
         let mut response = vec![0; sent.len()];

@@ -134,12 +134,7 @@ impl PinsModel for ShowsTheFirstRecord {
 struct PulsesDropped;
 
 impl PinsModel for PulsesDropped {
-    fn carry_out(
-        &self,
-        found: &Found,
-        record: &mut [u8],
-        array: &mut [u8],
-    ) -> Option<model::Outcome> {
+    fn carry_out(&self, found: &Found, record: &mut [u8], array: &mut [u8]) -> Answered {
         let mut found = found.clone();
         found.bits.truncate(found.bits.len() / 8 * 8);
         Paper.carry_out(&found, record, array)
@@ -150,12 +145,7 @@ impl PinsModel for PulsesDropped {
 struct UnfinishedCarriedOut;
 
 impl PinsModel for UnfinishedCarriedOut {
-    fn carry_out(
-        &self,
-        found: &Found,
-        record: &mut [u8],
-        array: &mut [u8],
-    ) -> Option<model::Outcome> {
+    fn carry_out(&self, found: &Found, record: &mut [u8], array: &mut [u8]) -> Answered {
         let mut found = found.clone();
         if found.end == End::Unfinished {
             found.end = End::Risen { w: true };
@@ -168,12 +158,7 @@ impl PinsModel for UnfinishedCarriedOut {
 struct TicksPass;
 
 impl PinsModel for TicksPass {
-    fn carry_out(
-        &self,
-        found: &Found,
-        record: &mut [u8],
-        array: &mut [u8],
-    ) -> Option<model::Outcome> {
+    fn carry_out(&self, found: &Found, record: &mut [u8], array: &mut [u8]) -> Answered {
         let outcome = Paper.carry_out(found, record, array)?;
         Paper.wait(record, 1);
         Some(outcome)
