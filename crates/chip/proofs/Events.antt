@@ -1,14 +1,17 @@
 -- Laws of events and of lists of them: appended lists, what stays, what does not look at the array, and what stands in a response.
 -- Assumes nothing.
 use mathlib.Core.Path.{_≡_, refl, sym, ap, _∙_}
-use mathlib.Core.Bool.{Bool, true}
+use mathlib.Core.Bool.{Bool, true, false}
 use mathlib.Core.List.{List, [], _∷_, _++_}
+use mathlib.Core.Logic.{_⊎_, inl, inr}
 use Prim.Native.Nat.{ℕ, suc, _+_, _≤_, _<_}
 use native.Mathlib.Nat.{zero-add, add-assoc}
 use native.Mathlib.Omega.{arith}
-use borrow.Author.Tests.{eq-eqb, le-ltb, lt-ltb}
+use borrow.Author.Tests.{eq-eqb, le-ltb, lt-ltb, ltb-true, ltb-false}
+use lib.Dec.{ltb}
 use lib.ListN.{length, replicate, length-replicate}
 use Rattle.slices.specs.Changed.{mapAt, window, put}
+use Rattle.slices.proofs.Choices.{both}
 use Rattle.slices.proofs.Maps.{map-blind}
 use Rattle.slices.proofs.Windows.{window-in}
 use Rattle.parts.specs.Parts.{figuresOf}
@@ -21,9 +24,9 @@ use Rattle.chip.specs.Table.{addressOf, rowIn}
 use Rattle.chip.specs.Answers.{hostNumber, chipNumber, verdictOf}
 use Rattle.chip.specs.Line.{heardRow, lined, firstOf, countOf}
 use Rattle.chip.specs.Outcome.{outcomeOf, transacted}
-use Rattle.chip.specs.Events.{Chip, Good, Event, sends, waits, starts, Reply, sent, after, reply, run, missed, story}
+use Rattle.chip.specs.Events.{Chip, Good, Event, sends, waits, starts, every, Reply, sent, called, after, reply, run, missed, story}
 use Rattle.chip.proofs.Lines.{span-is}
-use Rattle.chip.proofs.Verdicts.{Decision, refuses, ignores, executes, verdict-is}
+use Rattle.chip.proofs.Verdicts.{Decision, refuses, ignores, executes, verdict-is, not-refused}
 use Rattle.chip.proofs.Rules.{array-length, response-length, stays-sound, make-stays}
 use Rattle.chip.proofs.Records.{wait-sound, power-up-sound, wait-rests, power-up-rests}
 
@@ -44,6 +47,11 @@ story-length (e ∷ es) c = ap suc (story-length es (after e c))
 pub missed-append : (a b : List Event) (c : Chip) → missed (a ++ b) c ≡ missed a c + missed b (run a c)
 missed-append [] b c = sym (zero-add (missed b c))
 missed-append (e ∷ a) b c = ap (λ (n : ℕ). reply e c .answer .missing + n) (missed-append a b (after e c)) ∙ sym (add-assoc (reply e c .answer .missing) (missed a (after e c)) (missed b (run a (after e c))))
+
+-- what holds of each event of a list holds of each in its front
+pub every-front : (test : Event → Bool) (a b : List Event) → every test (a ++ b) ≡ true → every test a ≡ true
+every-front test [] b h = refl
+every-front test (e ∷ a) b h = let p = both (test e) (every test (a ++ b)) h in rw (p .0) (every-front test a b (p .1))
 
 -- ---- what every event keeps, every list keeps
 
@@ -227,3 +235,14 @@ refused-nothing c bytes p w r h = go (verdict-is (c .device) (length (c .array))
     go (refuses a) = (refl, refl, refl)
     go (ignores a b) = absurd (h a)
     go (executes a b) = absurd (h a)
+
+-- a call with whatever response leaves the chip as the event does, or, refused, as it was
+pub any-call : (c : Chip) (bytes : List ℕ) (p : ℕ) (w : Bool) (r : List ℕ) → (called c bytes p w r ≡ after (sends bytes p w) c) ⊎ (called c bytes p w r ≡ c)
+any-call c bytes p w r = go (ltb (length r) (length bytes)) refl
+  where
+    go : (b : Bool) → ltb (length r) (length bytes) ≡ b → (called c bytes p w r ≡ after (sends bytes p w) c) ⊎ (called c bytes p w r ≡ c)
+    go true e =
+        let short = ltb-true (length r) (length bytes) e in
+        let h = refused-nothing c bytes p w r (λ z. omega (arith, not-refused (c .device) (length (c .array)) (length bytes) p (length r) z .room)) in
+        inr (rw (h .0, h .1))
+    go false e = let h = sent-room c bytes p w r (ltb-false (length r) (length bytes) e) in inl (rw (h .1, h .2))

@@ -1,7 +1,7 @@
 -- The bits missing: an executed program alone has any; and of transactions with no wait and no power-up between them one at the most, since it starts a cycle.
 -- Assumes nothing.
 use mathlib.Core.Path.{_≡_, refl, sym, ap, _∙_}
-use mathlib.Core.Bool.{Bool, true}
+use mathlib.Core.Bool.{Bool, true, false, false≢true}
 use mathlib.Core.List.{List, [], _∷_}
 use mathlib.Core.Logic.{_⊎_, inl, inr}
 use Prim.Native.Nat.{ℕ, _+_, _/_, _%_, _≤_, _<_}
@@ -23,7 +23,7 @@ use Rattle.chip.specs.declared.table.Turn.the-variants.{Keep, Enable, Di
 use Rattle.chip.specs.Table.{rowOf, rowIn, addressOf}
 use Rattle.chip.specs.Change.{cycleOf, changed, missingOf, turned}
 use Rattle.chip.specs.Outcome.{Outcome, outcomeOf, transacted}
-use Rattle.chip.specs.Events.{Chip, Event, sends, waits, starts, sent, after, missed}
+use Rattle.chip.specs.Events.{Chip, Event, sends, waits, starts, every, sent, after, missed}
 use Rattle.chip.proofs.Rows.{rows-ind}
 use Rattle.chip.proofs.Rules.{Bytes, outcome-ind, answer-few}
 use Rattle.chip.proofs.Busy.{busy-stays}
@@ -96,26 +96,25 @@ module _ (d : Device) (array bytes : List ℕ) (pulses : ℕ) (w : Bool) (respon
 
 -- ---- over a list
 
--- transactions alone: no wait, no power-up
-abbrev pub AllSend : List Event → Type 0
-AllSend [] = Unit {0}
-AllSend (sends bytes p w ∷ es) = AllSend es
-AllSend (waits t ∷ es) = ⊥
-AllSend (starts ∷ es) = ⊥
+-- a transaction: no wait, no power-up
+abbrev pub isSent : Event → Bool
+isSent (sends bytes p w) = true
+isSent (waits t) = false
+isSent starts = false
 
 -- in a cycle none
-pub busy-misses : (es : List Event) (c : Chip) → AllSend es → isBusy (c .device .mode) ≡ true → missed es c ≡ 0
+pub busy-misses : (es : List Event) (c : Chip) → every isSent es ≡ true → isBusy (c .device .mode) ≡ true → missed es c ≡ 0
 unfolding sent
 busy-misses [] c s h = refl
 busy-misses (sends bytes p w ∷ es) c s h =
     let e = busy-stays (c .device) (c .array) bytes p w (replicate (length bytes) 0) h in
     let rest : missed es (after (sends bytes p w) c) ≡ 0 = busy-misses es (after (sends bytes p w) c) s (rw (e .0) h) in
     rw (e .2, rest)
-busy-misses (waits t ∷ es) c s h = absurd s
-busy-misses (starts ∷ es) c s h = absurd s
+busy-misses (waits t ∷ es) c s h = absurd (false≢true s)
+busy-misses (starts ∷ es) c s h = absurd (false≢true s)
 
 -- else at most those of one program: it starts a cycle, in which no other one is executed
-pub missed-few : (es : List Event) (c : Chip) → AllSend es → missed es c ≤ mostMissing
+pub missed-few : (es : List Event) (c : Chip) → every isSent es ≡ true → missed es c ≤ mostMissing
 unfolding sent
 missed-few [] c s = omega arith
 missed-few (sends bytes p w ∷ es) c s =
@@ -125,5 +124,5 @@ missed-few (sends bytes p w ∷ es) c s =
     go : {m n : ℕ} {b : Type 0} → (m ≡ 0) ⊎ b → n ≤ mostMissing → (b → n ≡ 0) → m ≤ mostMissing → m + n ≤ mostMissing
     go (inl z) h k l = omega arith
     go (inr y) h k l = let e = k y in omega arith
-missed-few (waits t ∷ es) c s = absurd s
-missed-few (starts ∷ es) c s = absurd s
+missed-few (waits t ∷ es) c s = absurd (false≢true s)
+missed-few (starts ∷ es) c s = absurd (false≢true s)

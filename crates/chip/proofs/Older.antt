@@ -33,8 +33,8 @@ use Rattle.chip.specs.Answers.{deliveryAnswer, hostNumber, inProtected, 
 use Rattle.chip.specs.Line.{silent, kth, byRow, heard, heardRow, driven, driving, onLine, lined, drivingAt, firstFrom, firstOf, countOf}
 use Rattle.chip.specs.Change.{cycleOf, changed, missingOf, asItWas, bpIn, settledBy, turned}
 use Rattle.chip.specs.Outcome.{Outcome, bare, outcomeOf, transacted, Delivered}
-use Rattle.chip.specs.Events.{Chip, Event, sends, waits, starts, Reply, sent, after, reply, run, story}
-use Rattle.chip.specs.Older.{asPart, outcomeAs, checkedAs, deliveredAs, chipAs, notRdid, without9F, allWithout9F, DoesAs}
+use Rattle.chip.specs.Events.{Chip, Event, sends, waits, starts, every, Reply, sent, after, reply, run, story}
+use Rattle.chip.specs.Older.{asPart, outcomeAs, checkedAs, deliveredAs, chipAs, notRdid, without9F, DoesAs}
 use Rattle.chip.proofs.Rows.{rows-ind}
 use Rattle.chip.proofs.Events.{after-part}
 
@@ -260,21 +260,21 @@ reply-same starts c h = ap (λ (r : Checked). record { answer = bare (r .answer)
 still-one : (e : Event) (c : Chip) → chipAs 1 (after e (chipAs 1 c)) ≡ after e (chipAs 1 c)
 still-one e c = ap (λ (p : ℕ). chipAs p (after e (chipAs 1 c))) (sym (after-part e (chipAs 1 c)))
 
-run-same : (es : List Event) (c : Chip) → allWithout9F es ≡ true → run es (chipAs 5 c) ≡ chipAs 5 (run es (chipAs 1 c))
+run-same : (es : List Event) (c : Chip) → every without9F es ≡ true → run es (chipAs 5 c) ≡ chipAs 5 (run es (chipAs 1 c))
 run-same [] c h = refl
 run-same (e ∷ es) c h =
-    let both-so = both (without9F e) (allWithout9F es) h in
+    let both-so = both (without9F e) (every without9F es) h in
     ap (run es) (after-same e c (both-so .0)) ∙ (run-same es (after e (chipAs 1 c)) (both-so .1) ∙ ap (λ (x : Chip). chipAs 5 (run es x)) (still-one e c))
 
-story-same : (es : List Event) (c : Chip) → allWithout9F es ≡ true → story es (chipAs 5 c) ≡ story es (chipAs 1 c)
+story-same : (es : List Event) (c : Chip) → every without9F es ≡ true → story es (chipAs 5 c) ≡ story es (chipAs 1 c)
 story-same [] c h = refl
 story-same (e ∷ es) c h =
-    let both-so = both (without9F e) (allWithout9F es) h in
+    let both-so = both (without9F e) (every without9F es) h in
     ap₂ (λ (r : Reply) (rs : List Reply). r ∷ rs) (reply-same e c (both-so .0))
     (ap (story es) (after-same e c (both-so .0)) ∙ (story-same es (after e (chipAs 1 c)) (both-so .1) ∙ ap (story es) (still-one e c)))
 
 -- a whole life without 9F: the caller sees the same, and the chip ends as the same
-older-lives : (es : List Event) (c : Chip) → c .device .part ≡ 5 → allWithout9F es ≡ true → (story es c ≡ story es (chipAs 1 c)) × (run es c ≡ chipAs 5 (run es (chipAs 1 c)))
+older-lives : (es : List Event) (c : Chip) → c .device .part ≡ 5 → every without9F es ≡ true → (story es c ≡ story es (chipAs 1 c)) × (run es c ≡ chipAs 5 (run es (chipAs 1 c)))
 older-lives es c p h =
     let renamed-chip : c ≡ chipAs 5 c = λ j. chipAs (p j) c in
     (ap (story es) renamed-chip ∙ story-same es c h, ap (run es) renamed-chip ∙ run-same es c h)

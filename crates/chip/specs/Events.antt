@@ -1,6 +1,6 @@
 -- The chip over lists of events: what may be done to it, what that leaves, and what the caller sees.
 use mathlib.Core.Path.{_≡_}
-use mathlib.Core.Bool.{Bool, true}
+use mathlib.Core.Bool.{Bool, true, _&&_}
 use mathlib.Core.List.{List, [], _∷_}
 use Prim.Native.Nat.{ℕ, _+_}
 use lib.ListN.{length, replicate}
@@ -23,6 +23,11 @@ pub data Event : Type 0 where
   -- power-up
   starts : Event
 
+-- a test holds of each event of a list
+abbrev pub every : (Event → Bool) → List Event → Bool
+every test [] = true
+every test (e ∷ es) = test e && every test es
+
 -- what the caller sees: the answer, and as many response bytes as were sent
 pub record Reply : Type 0 where
   pub answer : Answer
@@ -37,6 +42,11 @@ abbrev pub after : Event → Chip → Chip
 after (sends bytes pulses w) c = record { device = sent c bytes pulses w .device; array = sent c bytes pulses w .array }
 after (waits t) c = record { device = waitCall (c .device) t .device; array = c .array }
 after starts c = record { device = powerUpCall (c .device) .device; array = c .array }
+
+-- the chip after a transaction call with whatever response
+abbrev pub called : Chip → List ℕ → ℕ → Bool → List ℕ → Chip
+called c bytes pulses w response =
+    record { device = transacted (c .device) (c .array) bytes pulses w response .device; array = transacted (c .device) (c .array) bytes pulses w response .array }
 
 -- what the caller sees of one event
 abbrev pub reply : Event → Chip → Reply

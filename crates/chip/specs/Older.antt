@@ -1,6 +1,6 @@
 -- Document 02, Wish 4: what the older M25P10-A, part 5, has in common with part 1.
 use mathlib.Core.Path.{_≡_}
-use mathlib.Core.Bool.{Bool, true, not, _&&_}
+use mathlib.Core.Bool.{Bool, true, not}
 use mathlib.Core.List.{List, [], _∷_}
 use Prim.Native.Nat.{ℕ}
 use lib.Dec.{eqb}
@@ -9,7 +9,7 @@ use Rattle.device.specs.declared.Device.{Device}
 use Rattle.device.specs.declared.Checked.{Checked}
 use Rattle.device.specs.Device.{waitCall, powerUpCall}
 use Rattle.chip.specs.Outcome.{Outcome, transacted, Delivered}
-use Rattle.chip.specs.Events.{Chip, Event, sends, waits, starts, run, story}
+use Rattle.chip.specs.Events.{Chip, Event, sends, waits, starts, every, run, story}
 
 -- the same record with another part number
 abbrev pub asPart : ℕ → Device → Device
@@ -42,11 +42,6 @@ without9F (sends bytes pulses w) = notRdid bytes
 without9F (waits t) = true
 without9F starts = true
 
--- every event of a list is such a one
-abbrev pub allWithout9F : List Event → Bool
-allWithout9F [] = true
-allWithout9F (e ∷ es) = without9F e && allWithout9F es
-
 -- one part does what another does, but for 9F: same answer, same line, same array, same next record, its part number apart
 pub record DoesAs (old new : ℕ) : Type 0 where
   -- every record of the part, array, transaction (bytes, further pulses, level of W) and response, the first byte other than 9F or no bytes at all
@@ -58,4 +53,4 @@ pub record DoesAs (old new : ℕ) : Type 0 where
   pub delivers : {array : List ℕ} {program sector bulk status : ℕ} {r s : Checked} {array′ array″ : List ℕ}
       → Delivered new array program sector bulk status r array′ → Delivered old array program sector bulk status s array″ → (s ≡ deliveredAs old r) × (array″ ≡ array′)
   -- every list of transactions without 9F, waits and power-ups
-  pub lives : (es : List Event) (c : Chip) → c .device .part ≡ old → allWithout9F es ≡ true → (story es c ≡ story es (chipAs new c)) × (run es c ≡ chipAs old (run es (chipAs new c)))
+  pub lives : (es : List Event) (c : Chip) → c .device .part ≡ old → every without9F es ≡ true → (story es c ≡ story es (chipAs new c)) × (run es c ≡ chipAs old (run es (chipAs new c)))

@@ -3,8 +3,7 @@
 use mathlib.Core.Path.{_≡_, refl, sym, ap, _∙_}
 use mathlib.Core.Bool.{Bool, true, false, cond, _&&_, _||_, true≢false, false≢true}
 use mathlib.Core.List.{List, [], _∷_, _++_}
-use Prim.Native.Nat.{ℕ, _*_, _/_, _%_, _<_}
-use native.Mathlib.Nat.{div-div-eq-div-mul}
+use Prim.Native.Nat.{ℕ, _/_, _%_, _<_}
 use borrow.Author.Tests.{eqb-true, eq-eqb}
 use lib.Dec.{eqb}
 use lib.ListN.{getD, drop}
@@ -15,7 +14,7 @@ use Rattle.memory.specs.Memory.{blank, filled, reached, landed, programmed, era
 use Rattle.memory.proofs.Laws.{programmed-byte}
 use Rattle.parts.specs.declared.Figures.{Figures}
 use Rattle.parts.specs.Parts.{figuresOf}
-use Rattle.parts.proofs.Laws.{sane}
+use Rattle.parts.proofs.Laws.{Sane, sane, in-sector}
 use Rattle.device.specs.declared.Device.{Device}
 use Rattle.device.specs.Cycles.{touched}
 use Rattle.chip.specs.Table.{rowOf, addressOf}
@@ -35,17 +34,12 @@ pub data Acts (f : Figures) (c : ℕ) (sent : List ℕ) (i : ℕ) : Type 0 where
   fillsIn : eqb c 0xD8 || eqb c 0xC7 ≡ true → (q : Bool) → (q ≡ true → eqb c 0xC7 || eqb (addressOf f sent / f .«sector_bytes») (i / f .«sector_bytes») ≡ true)
       → ((x : ℕ) → changed (rowOf f c .turn) f (addressOf f sent) sent i x ≡ cond q 255 x) → Acts f c sent i
 
--- a page lies within one sector
-in-sector : (k ss i a : ℕ) → ss ≡ 256 * k → i / 256 ≡ a / 256 → i / ss ≡ a / ss
-in-sector k ss i a e h =
-    ap (λ (m : ℕ). i / m) e ∙ sym (div-div-eq-div-mul i 256 k) ∙ ap (λ (m : ℕ). m / k) h ∙ div-div-eq-div-mul a 256 k ∙ ap (λ (m : ℕ). a / m) (sym e)
-
-acts : (f : Figures) (k : ℕ) → f .«sector_bytes» ≡ 256 * k → (sent : List ℕ) (i c : ℕ) → eqb c 0x02 || (eqb c 0xD8 || eqb c 0xC7) ≡ true → Acts f c sent i
+acts : (f : Figures) → Sane f → (sent : List ℕ) (i c : ℕ) → eqb c 0x02 || (eqb c 0xD8 || eqb c 0xC7) ≡ true → Acts f c sent i
 unfolding rowOf changed cycleOf touched programmed erased
-acts f k e sent i =
+acts f s sent i =
     codes-ind (λ (c : ℕ). Acts f c sent i)
     (andsIn refl (eqb (i / 256) (addressOf f sent / 256)) (getD (filled blank (addressOf f sent) (drop 4 sent)) (i % 256) 0)
-    (λ p. eq-eqb (addressOf f sent / f .«sector_bytes») (i / f .«sector_bytes») (sym (in-sector k (f .«sector_bytes») i (addressOf f sent) e (eqb-true (i / 256) (addressOf f sent / 256) p))))
+    (λ p. eq-eqb (addressOf f sent / f .«sector_bytes») (i / f .«sector_bytes») (sym (in-sector s i (addressOf f sent) (eqb-true (i / 256) (addressOf f sent / 256) p))))
     (λ x. refl))
     (fillsIn refl (eqb (i / f .«sector_bytes») (addressOf f sent / f .«sector_bytes»))
     (λ q. eq-eqb (addressOf f sent / f .«sector_bytes») (i / f .«sector_bytes») (sym (eqb-true (i / f .«sector_bytes») (addressOf f sent / f .«sector_bytes») q)))
@@ -115,7 +109,7 @@ effects-commute d a b wa wb m i =
     (own-commute (figuresOf (d .part)) i a b m (at a wa) (at b wb))
   where
     at : (j : Job) → WellFormed j → Acts (figuresOf (d .part)) (code j) (j .sent) i
-    at j w = acts (figuresOf (d .part)) (sane (d .part) .pages) (sane (d .part) .paged) (j .sent) i (code j) (w .kind)
+    at j w = acts (figuresOf (d .part)) (sane (d .part)) (j .sent) i (code j) (w .kind)
 
 -- ---- the byte formula
 

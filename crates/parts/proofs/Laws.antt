@@ -1,8 +1,8 @@
 -- What holds of every part's figures and of the rule of protected sectors.
 -- Assumes nothing.
-use mathlib.Core.Path.{_≡_, refl, _∙_}
-use Prim.Native.Nat.{ℕ, _-_, _*_, _%_, _^_, _≤_, _<_, min}
-use native.Mathlib.Nat.{le-trans, le-of-lt, min-eq-left, one-mul}
+use mathlib.Core.Path.{_≡_, refl, sym, ap, _∙_}
+use Prim.Native.Nat.{ℕ, _-_, _*_, _/_, _%_, _^_, _≤_, _<_, min}
+use native.Mathlib.Nat.{le-trans, le-of-lt, min-eq-left, one-mul, div-div-eq-div-mul, div-lt-iff-lt-mul}
 use native.Mathlib.Omega.{arith}
 use lib.Dec.{eqb, lit<, lit≤}
 use lib.Pow.{pow-mono, shl-exact}
@@ -45,6 +45,15 @@ sane p =
     (record { some = lit< tt; few = lit≤ tt; bytes-paged = refl; sectors-some = lit< tt; sectors-few = lit≤ tt; sector-some = lit< tt; whole = refl; pages = 256; paged = refl; bp-few = lit≤ tt })
     (record { some = lit< tt; few = lit≤ tt; bytes-paged = refl; sectors-some = lit< tt; sectors-few = lit≤ tt; sector-some = lit< tt; whole = refl; pages = 1024; paged = refl; bp-few = lit≤ tt })
     p
+
+-- a page lies within one sector
+pub in-sector : {f : Figures} → Sane f → (i a : ℕ) → i / 256 ≡ a / 256 → i / f .«sector_bytes» ≡ a / f .«sector_bytes»
+in-sector {f} s i a h =
+    ap (λ (m : ℕ). i / m) (s .paged) ∙ sym (div-div-eq-div-mul i 256 (s .pages)) ∙ ap (λ (m : ℕ). m / s .pages) h ∙ div-div-eq-div-mul a 256 (s .pages) ∙ ap (λ (m : ℕ). a / m) (sym (s .paged))
+
+-- every byte of a part stands in one of its sectors
+pub sector-within : {f : Figures} → Sane f → (i : ℕ) → i < f .bytes → i / f .«sector_bytes» < f .sectors
+sector-within {f} s i lt = div-lt-iff-lt-mul (s .sector-some) .1 (rw (s .whole) lt)
 
 -- the rule, where BP is not 0
 rule : (n bp : ℕ) → ((bp ≡ 0) → ⊥) → protectedOf n bp ≡ min n (2 ^ (bp - 1))

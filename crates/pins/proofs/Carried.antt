@@ -14,10 +14,10 @@ use Rattle.memory.specs.Missing.{mostMissing}
 use Rattle.device.specs.declared.Device.{Device}
 use Rattle.chip.specs.Line.{Driven, silent, drives, driven}
 use Rattle.chip.specs.Line.{lineByte}
-use Rattle.chip.specs.Events.{Event, sends, reply, missed}
+use Rattle.chip.specs.Events.{Event, sends, every, reply, missed}
 use Rattle.chip.proofs.Lines.{driven-before, heard-laws}
 use Rattle.chip.proofs.Events.{sent-room, missed-append}
-use Rattle.chip.proofs.Missed.{AllSend, missed-few}
+use Rattle.chip.proofs.Missed.{isSent, missed-few}
 use Rattle.pins.specs.declared.levels.Levels.{Levels}
 use Rattle.pins.specs.declared.underway.Underway.{Underway}
 use Rattle.pins.specs.Pins.{levelsOf, Pins, changes, ends, takes, moves, Transaction, Taking, anew, shifted, bitTaken, movedOn, clocked, nextTaking, nextFound, Seen, step, seen}
@@ -52,8 +52,8 @@ all-append c [] us = refl
 all-append c (t ∷ ts) us = all-append (carriedOut c t) ts us
 
 -- transactions alone are no waits
-all-send : (ts : List Transaction) → AllSend (eventsOf ts)
-all-send [] = tt
+all-send : (ts : List Transaction) → every isSent (eventsOf ts) ≡ true
+all-send [] = refl
 all-send (t ∷ ts) = all-send ts
 
 events-append : (ts us : List Transaction) → eventsOf (ts ++ us) ≡ eventsOf ts ++ eventsOf us
