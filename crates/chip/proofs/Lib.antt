@@ -9,5 +9,7 @@ pub mod Events
 pub mod Reading
 pub mod Busy
 pub mod Missed
+pub mod Protection
+pub mod Edges
 pub mod Older
 pub mod Worked

@@ -5,5 +5,6 @@ pub mod Line
 pub mod Change
 pub mod Outcome
 pub mod Events
+pub mod Protection
 pub mod Older
 pub mod Worked

@@ -1,0 +1,86 @@
+-- Document 02, Wish 8: what hardware protection is worth, and its edges.
+use mathlib.Core.Path.{_≡_}
+use mathlib.Core.Bool.{Bool, true, false, not}
+use mathlib.Core.List.{List, [], _∷_, _++_, map}
+use mathlib.Core.Logic.{_⊎_}
+use Prim.Native.Nat.{ℕ, _<_}
+use lib.ListN.{length, getD}
+use Rattle.parts.specs.Parts.{figuresOf}
+use Rattle.device.specs.declared.Mode.the-variants.{Standby}
+use Rattle.device.specs.declared.Device.{Device}
+use Rattle.chip.specs.Answers.{inProtected}
+use Rattle.chip.specs.Events.{Chip, Good, Event, sends, waits, starts, every, Reply, called, after, run, story}
+use Rattle.chip.specs.Worked.{bench, fresh}
+
+-- ---- from where, and over what
+
+-- a sound record in standby with SRWD set, its latch set or not, beside an array of the part's length
+pub record Frozen (c : Chip) : Type 0 where
+  pub good : Good c
+  pub standby : c .device .mode ≡ Standby
+  pub srwd : c .device .srwd ≡ true
+
+-- a transaction with W low, whatever else it is; a wait; a power-up
+abbrev pub wLow : Event → Bool
+wLow (sends bytes pulses w) = not w
+wLow (waits t) = true
+wLow starts = true
+
+-- ---- what stays
+
+-- byte i stands in a protected sector, by the test that answers 17
+abbrev pub isProtected : Device → ℕ → Bool
+isProtected d i = inProtected (figuresOf (d .part)) (d .bp) i
+
+-- BP and SRWD of a chip are what they were, and so is each byte of a protected sector; part and length of the array, too
+pub record Kept (was is : Chip) : Type 0 where
+  pub bp : is .device .bp ≡ was .device .bp
+  pub srwd : is .device .srwd ≡ was .device .srwd
+  pub bytes : (i : ℕ) → i < length (was .array) → isProtected (was .device) i ≡ true → getD (is .array) i 0 ≡ getD (was .array) i 0
+  pub part : is .device .part ≡ was .device .part
+  pub long : length (is .array) ≡ length (was .array)
+
+pub record HardwareProtects : Type 0 where
+  -- over any list of such events
+  pub ends : (c : Chip) → Frozen c → (es : List Event) → every wLow es ≡ true → Kept c (run es c)
+  -- and after each event of it: `es` are those so far, `later` those to come
+  pub each : (c : Chip) → Frozen c → (es later : List Event) → every wLow (es ++ later) ≡ true → Kept c (run es c)
+  -- an event is a call with a response of its own length; a call with whatever response leaves the chip as the event does, or, refused by the host side, as it was
+  pub calls : (c : Chip) (bytes : List ℕ) (pulses : ℕ) (w : Bool) (response : List ℕ)
+      → (called c bytes pulses w response ≡ after (sends bytes pulses w) c) ⊎ (called c bytes pulses w response ≡ c)
+
+-- ---- its edges: nothing of the above can be left out
+
+-- the bench part in standby with BP 1, by SRWD, the latch reset, the array all FF: the highest sector, from byte 3,072 on, is protected
+abbrev pub edge : Bool → Chip
+edge srwd = fresh (bench 1 srwd false)
+
+-- write enable; a status write of 00, with W at this level; its two ticks; write enable; a program of 00 at byte 3,072. W is low in the other three
+abbrev pub attempt : Bool → List Event
+attempt w =
+    sends (0x06 ∷ []) 0 false ∷ sends (0x01 ∷ 0x00 ∷ []) 0 w ∷ waits 2 ∷ sends (0x06 ∷ []) 0 false ∷ sends (0x02 ∷ 0x00 ∷ 0x0C ∷ 0x00 ∷ 0x00 ∷ []) 0 false ∷ []
+
+-- what came of it: the answer numbers; BP, SRWD and byte 3,072 at the end
+pub record Tried : Type 0 where
+  pub numbers : List ℕ
+  pub bp : ℕ
+  pub srwd : Bool
+  pub byte : ℕ
+
+-- by SRWD at the start and W at the status write
+abbrev pub tried : Bool → Bool → Tried
+tried srwd w =
+    let c = run (attempt w) (edge srwd) in
+    record { numbers = map (λ (r : Reply). r .answer .number) (story (attempt w) (edge srwd)); bp = c .device .bp; srwd = c .device .srwd; byte = getD (c .array) 3072 0 }
+
+pub record Edges : Type 0 where
+  pub frozen : Frozen (edge true)
+  -- SRWD set and W low throughout: the status write gets 18, the program 17, and all stays
+  pub low : tried true false ≡ record { numbers = 0 ∷ 18 ∷ 0 ∷ 0 ∷ 17 ∷ []; bp = 1; srwd = true; byte = 0xFF }
+  -- SRWD set, W high in one transaction: both are executed
+  pub high-once : tried true true ≡ record { numbers = 0 ∷ 0 ∷ 0 ∷ 0 ∷ 0 ∷ []; bp = 0; srwd = false; byte = 0x00 }
+  -- W low throughout, SRWD not set at the start: both are executed, too
+  pub reset : tried false false ≡ record { numbers = 0 ∷ 0 ∷ 0 ∷ 0 ∷ 0 ∷ []; bp = 0; srwd = false; byte = 0x00 }
+  -- so the protection is undone in either case
+  pub high-undoes : Kept (edge true) (run (attempt true) (edge true)) → ⊥
+  pub reset-undoes : Kept (edge false) (run (attempt false) (edge false)) → ⊥
