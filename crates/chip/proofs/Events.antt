@@ -1,7 +1,7 @@
 -- Laws of events and of lists of them: appended lists, what stays, what does not look at the array, and what stands in a response.
 -- Assumes nothing.
 use mathlib.Core.Path.{_≡_, refl, sym, ap, _∙_}
-use mathlib.Core.Bool.{Bool, true, false}
+use mathlib.Core.Bool.{Bool, true, false, _&&_}
 use mathlib.Core.List.{List, [], _∷_, _++_}
 use mathlib.Core.Logic.{_⊎_, inl, inr}
 use Prim.Native.Nat.{ℕ, suc, _+_, _≤_, _<_}
@@ -11,7 +11,6 @@ use borrow.Author.Tests.{eq-eqb, le-ltb, lt-ltb, ltb-true, ltb-false}
 use lib.Dec.{ltb}
 use lib.ListN.{length, replicate, length-replicate}
 use Rattle.slices.specs.Changed.{mapAt, window, put}
-use Rattle.slices.proofs.Choices.{both}
 use Rattle.slices.proofs.Maps.{map-blind}
 use Rattle.slices.proofs.Windows.{window-in}
 use Rattle.parts.specs.Parts.{figuresOf}
@@ -48,10 +47,13 @@ pub missed-append : (a b : List Event) (c : Chip) → missed (a ++ b) c ≡ miss
 missed-append [] b c = sym (zero-add (missed b c))
 missed-append (e ∷ a) b c = ap (λ (n : ℕ). reply e c .answer .missing + n) (missed-append a b (after e c)) ∙ sym (add-assoc (reply e c .answer .missing) (missed a (after e c)) (missed b (run a (after e c))))
 
--- what holds of each event of a list holds of each in its front
-pub every-front : (test : Event → Bool) (a b : List Event) → every test (a ++ b) ≡ true → every test a ≡ true
-every-front test [] b h = refl
-every-front test (e ∷ a) b h = let p = both (test e) (every test (a ++ b)) h in rw (p .0) (every-front test a b (p .1))
+and-assoc : (a b c : Bool) → a && (b && c) ≡ a && b && c
+and-assoc true b c = refl
+and-assoc false b c = refl
+
+pub every-append : (test : Event → Bool) (a b : List Event) → every test (a ++ b) ≡ every test a && every test b
+every-append test [] b = refl
+every-append test (e ∷ a) b = ap (λ (t : Bool). test e && t) (every-append test a b) ∙ and-assoc (test e) (every test a) (every test b)
 
 -- ---- what every event keeps, every list keeps
 

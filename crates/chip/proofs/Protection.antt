@@ -29,7 +29,7 @@ use Rattle.chip.specs.Events.{Chip, Event, sends, waits, starts, every, 
 use Rattle.chip.specs.Protection.{wLow, isProtected, Kept, HardwareProtects}
 use Rattle.chip.proofs.Rules.{outcome-ind, settings-stay}
 use Rattle.chip.proofs.Records.{SameSettings, wait-rests, power-up-rests}
-use Rattle.chip.proofs.Events.{every-front, after-length, after-part, any-call}
+use Rattle.chip.proofs.Events.{every-append, after-length, after-part, any-call}
 
 -- ---- one transaction
 
@@ -135,6 +135,6 @@ kept-all (e ∷ es) c l s =
 pub hardware-protects : HardwareProtects
 hardware-protects = record {
   ends = λ c f es l. kept-all es c l (f .srwd);
-  each = λ c f es later l. kept-all es c (every-front wLow es later l) (f .srwd);
+  each = λ c f es later l. kept-all es c (both (every wLow es) (every wLow later) (sym (every-append wLow es later) ∙ l) .0) (f .srwd);
   calls = any-call;
 }

@@ -56,7 +56,7 @@ all-send : (ts : List Transaction) → every isSent (eventsOf ts) ≡ true
 all-send [] = refl
 all-send (t ∷ ts) = all-send ts
 
-events-append : (ts us : List Transaction) → eventsOf (ts ++ us) ≡ eventsOf ts ++ eventsOf us
+pub events-append : (ts us : List Transaction) → eventsOf (ts ++ us) ≡ eventsOf ts ++ eventsOf us
 events-append [] us = refl
 events-append (t ∷ ts) us = ap (λ (es : List Event). sends (t .sent) (t .pulses) (t .w) ∷ es) (events-append ts us)
 

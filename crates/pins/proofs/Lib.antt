@@ -6,3 +6,4 @@ pub mod Runs
 pub mod Theorems
 pub mod Output
 pub mod Worked
+pub mod Protected

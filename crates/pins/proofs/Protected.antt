@@ -1,0 +1,51 @@
+-- Wish 8 of raw pins: from a chip with SRWD set, W low as each transaction ends, a run keeps what hardware protection keeps.
+-- Assumes nothing.
+use mathlib.Core.Path.{_≡_, refl, sym, _∙_}
+use mathlib.Core.Bool.{Bool, true, false}
+use mathlib.Core.List.{List, [], _∷_}
+use Prim.Native.Nat.{ℕ, zero, suc, _<_}
+use native.Mathlib.Omega.{arith}
+use lib.ListN.{length, getD, take}
+use Rattle.slices.proofs.Choices.{cond-case}
+use Rattle.device.specs.declared.Device.{Device}
+use Rattle.device.specs.Device.{onZero}
+use Rattle.chip.specs.declared.Done.{Done}
+use Rattle.chip.specs.Events.{Event, every}
+use Rattle.chip.specs.Protection.{Frozen, wLow, Kept}
+use Rattle.chip.proofs.Events.{every-append}
+use Rattle.chip.proofs.Protection.{kept-none, hardware-protects}
+use Rattle.pins.specs.declared.levels.Levels.{Levels}
+use Rattle.pins.specs.Pins.{levelsOf, ends, Transaction, nextFound, Seen, atRest, step, seenFrom, seen}
+use Rattle.pins.specs.Run.{Chip, eventsOf, chipAfter, runAnswer, Ran}
+use Rattle.pins.proofs.Carried.{ending, events-append}
+
+-- W is low in each sample in which Select rises outside a hold, so that a transaction ends
+abbrev pub LowAsItEnds : Seen → List ℕ → Type 0
+LowAsItEnds x samples = (i : ℕ) → i < length samples → ends (seenFrom x (take i samples) .pins) (levelsOf (getD samples i 0)) ≡ true → levelsOf (getD samples i 0) .w ≡ false
+
+-- then it is low in each transaction found
+low-next : (x : Seen) (now : Levels) → every wLow (eventsOf (x .found)) ≡ true → (ends (x .pins) now ≡ true → now .w ≡ false) → every wLow (eventsOf (step x now .found)) ≡ true
+unfolding step nextFound
+low-next x now h l =
+    cond-case (λ (ts : List Transaction). every wLow (eventsOf ts) ≡ true) (ends (x .pins) now)
+    (λ e. rw (events-append (x .found) (ending (x .taking) now ∷ []), every-append wLow (eventsOf (x .found)) (eventsOf (ending (x .taking) now ∷ [])), h, l e)) (λ e. h)
+
+low-found : (x : Seen) (samples : List ℕ) → every wLow (eventsOf (x .found)) ≡ true → LowAsItEnds x samples → every wLow (eventsOf (seenFrom x samples .found)) ≡ true
+low-found x [] h l = h
+low-found x (s ∷ samples) h l = low-found (step x (levelsOf s)) samples (low-next x (levelsOf s) h (l 0 (omega arith))) (λ i lt. l (suc i) (omega arith))
+
+-- whatever the run answers
+pub run-protects : {d : Device} {array samples output : List ℕ} {r : Done} {array′ output′ : List ℕ} → Ran d array samples output r array′ output′ → Frozen (record { device = d; array = array })
+    → LowAsItEnds atRest samples → Kept (record { device = d; array = array }) (record { device = r .device; array = array′ })
+unfolding chipAfter seen atRest
+run-protects {d} {array} {samples} {output} {r} {array′} ran f l = go (runAnswer d (length array) samples (length output)) (ran .device) (ran .memory)
+  where
+    c : Chip
+    c = record { device = d; array = array }
+
+    kept : Kept c (chipAfter d array samples)
+    kept = hardware-protects .ends c f (eventsOf (seen samples .found)) (low-found atRest samples refl l)
+
+    go : (k : ℕ) → r .device ≡ onZero k (chipAfter d array samples .device) d → array′ ≡ onZero k (chipAfter d array samples .array) array → Kept c (record { device = r .device; array = array′ })
+    go zero e g = rw (e, g) kept
+    go (suc k) e g = rw (e, g) (kept-none c)
