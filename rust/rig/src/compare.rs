@@ -102,7 +102,8 @@ impl Side {
         (&mut self.record[..step.record_len], &mut self.array[..step.array_len], filled)
     }
 
-    fn call(&mut self, step: &Step) -> u64 {
+    /// Makes the call of the library; its 64 bits.
+    pub fn call(&mut self, step: &Step) -> u64 {
         let (record, array, mut filled) = self.lend(step);
         let reply = match &step.call {
             Call::Deliver { part, durations } => {
@@ -118,7 +119,8 @@ impl Side {
         reply.bits()
     }
 
-    fn model_call(&mut self, step: &Step, rules: Rules) -> Seen {
+    /// Makes the call of the model with these rules.
+    pub fn model_call(&mut self, step: &Step, rules: Rules) -> Seen {
         let (record, array, mut filled) = self.lend(step);
         let Rules { chip, pins } = rules;
         match &step.call {

@@ -21,6 +21,9 @@ pub const CHIP: &[(&str, &dyn Model)] = named![
     Afterwards(latch_lost_when_ignored),
     FrozenOnWLowAlone,
     WLowStopsProgram,
+    NeverFrozen,
+    FrozenAtBpZeroAlone,
+    ProtectedWithWHighAlone,
     BulkErasesUnprotectedOnly,
     StoresOverOldBytes,
     ReadStopsAtTheEnd,
@@ -144,6 +147,33 @@ struct WLowStopsProgram;
 impl Model for WLowStopsProgram {
     fn protected(&self, r: &Record, t: Transaction) -> bool {
         Paper.protected(r, t) || t.sent[0] == PP && t.w == 0
+    }
+}
+
+/// WRSR is taken with SRWD set and W low.
+struct NeverFrozen;
+
+impl Model for NeverFrozen {
+    fn frozen(&self, _: &Record, _: u32) -> bool {
+        false
+    }
+}
+
+/// SRWD and W low freeze the status register only where BP is 0.
+struct FrozenAtBpZeroAlone;
+
+impl Model for FrozenAtBpZeroAlone {
+    fn frozen(&self, r: &Record, w: u32) -> bool {
+        r.bp == 0 && Paper.frozen(r, w)
+    }
+}
+
+/// Protected sectors are written with W low.
+struct ProtectedWithWHighAlone;
+
+impl Model for ProtectedWithWHighAlone {
+    fn protected(&self, r: &Record, t: Transaction) -> bool {
+        t.w != 0 && Paper.protected(r, t)
     }
 }
 
