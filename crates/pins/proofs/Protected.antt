@@ -1,7 +1,7 @@
 -- Wish 8 of raw pins: from a chip with SRWD set, W low as each transaction ends, a run keeps what hardware protection keeps.
 -- Assumes nothing.
-use mathlib.Core.Path.{_≡_, refl, sym, _∙_}
-use mathlib.Core.Bool.{Bool, true, false}
+use mathlib.Core.Path.{_≡_, refl}
+use mathlib.Core.Bool.{true, false}
 use mathlib.Core.List.{List, [], _∷_}
 use Prim.Native.Nat.{ℕ, zero, suc, _<_}
 use native.Mathlib.Omega.{arith}
@@ -10,7 +10,7 @@ use Rattle.slices.proofs.Choices.{cond-case}
 use Rattle.device.specs.declared.Device.{Device}
 use Rattle.device.specs.Device.{onZero}
 use Rattle.chip.specs.declared.Done.{Done}
-use Rattle.chip.specs.Events.{Event, every}
+use Rattle.chip.specs.Events.{every}
 use Rattle.chip.specs.Protection.{Frozen, wLow, Kept}
 use Rattle.chip.proofs.Events.{every-append}
 use Rattle.chip.proofs.Protection.{kept-none, hardware-protects}

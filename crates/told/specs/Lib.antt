@@ -4,6 +4,7 @@ pub mod Record
 pub mod Answers
 pub mod Effects
 pub mod Missing
+pub mod Protection
 pub mod Edges
 pub mod Calls
 pub mod CCalls
