@@ -184,7 +184,13 @@ uint64_t m25p_deliver(uint8_t *record, size_t record_len, uint32_t part,
  * before the cycle ends: with SRWD 0 and BP 0 the status is 03, in the last tick 01, and 00 afterwards.
  *
  * BP protects this many of the highest sectors: 0 for BP 0, otherwise 2 to the power BP - 1, or all of
- * them where the part has fewer. */
+ * them where the part has fewer.
+ *
+ * Hardware protection: starting from a standby record with SRWD set, as long as w is 0 in every
+ * transaction (in m25p_pins, as long as W is low in every sample in which Select rises), no call but
+ * m25p_deliver changes BP, SRWD or a byte of a protected sector. One WRSR with W high may undo it, and so
+ * may one with W low where SRWD is not set. Sectors that BP leaves free are programmed and erased as
+ * ever. */
 uint64_t m25p_transact(uint8_t *record, size_t record_len,
                        uint8_t *array, size_t array_len,
                        const uint8_t *sent, size_t sent_len,

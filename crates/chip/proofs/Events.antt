@@ -3,12 +3,10 @@
 use mathlib.Core.Path.{_≡_, refl, sym, ap, _∙_}
 use mathlib.Core.Bool.{Bool, true, false, _&&_}
 use mathlib.Core.List.{List, [], _∷_, _++_}
-use mathlib.Core.Logic.{_⊎_, inl, inr}
 use Prim.Native.Nat.{ℕ, suc, _+_, _≤_, _<_}
 use native.Mathlib.Nat.{zero-add, add-assoc}
 use native.Mathlib.Omega.{arith}
-use borrow.Author.Tests.{eq-eqb, le-ltb, lt-ltb, ltb-true, ltb-false}
-use lib.Dec.{ltb}
+use borrow.Author.Tests.{eq-eqb, le-ltb, lt-ltb}
 use lib.ListN.{length, replicate, length-replicate}
 use Rattle.slices.specs.Changed.{mapAt, window, put}
 use Rattle.slices.proofs.Maps.{map-blind}
@@ -23,7 +21,7 @@ use Rattle.chip.specs.Table.{addressOf, rowIn}
 use Rattle.chip.specs.Answers.{hostNumber, chipNumber, verdictOf}
 use Rattle.chip.specs.Line.{heardRow, lined, firstOf, countOf}
 use Rattle.chip.specs.Outcome.{outcomeOf, transacted}
-use Rattle.chip.specs.Events.{Chip, Good, Event, sends, waits, starts, every, Reply, sent, called, after, reply, run, missed, story}
+use Rattle.chip.specs.Events.{Chip, Good, Event, sends, waits, starts, every, Reply, sent, left, after, reply, run, missed, story}
 use Rattle.chip.proofs.Lines.{span-is}
 use Rattle.chip.proofs.Verdicts.{Decision, refuses, ignores, executes, verdict-is, not-refused}
 use Rattle.chip.proofs.Rules.{array-length, response-length, stays-sound, make-stays}
@@ -238,13 +236,7 @@ refused-nothing c bytes p w r h = go (verdict-is (c .device) (length (c .array))
     go (ignores a b) = absurd (h a)
     go (executes a b) = absurd (h a)
 
--- a call with whatever response leaves the chip as the event does, or, refused, as it was
-pub any-call : (c : Chip) (bytes : List ℕ) (p : ℕ) (w : Bool) (r : List ℕ) → (called c bytes p w r ≡ after (sends bytes p w) c) ⊎ (called c bytes p w r ≡ c)
-any-call c bytes p w r = go (ltb (length r) (length bytes)) refl
-  where
-    go : (b : Bool) → ltb (length r) (length bytes) ≡ b → (called c bytes p w r ≡ after (sends bytes p w) c) ⊎ (called c bytes p w r ≡ c)
-    go true e =
-        let short = ltb-true (length r) (length bytes) e in
-        let h = refused-nothing c bytes p w r (λ z. omega (arith, not-refused (c .device) (length (c .array)) (length bytes) p (length r) z .room)) in
-        inr (rw (h .0, h .1))
-    go false e = let h = sent-room c bytes p w r (ltb-false (length r) (length bytes) e) in inl (rw (h .1, h .2))
+-- any other leaves the chip as the event does
+pub taken-as-event : (c : Chip) (bytes : List ℕ) (p : ℕ) (w : Bool) (r : List ℕ) → hostNumber (c .device) (length (c .array)) (length bytes) p (length r) ≡ 0
+    → left (transacted (c .device) (c .array) bytes p w r) ≡ after (sends bytes p w) c
+taken-as-event c bytes p w r h = let e = sent-room c bytes p w r (not-refused (c .device) (length (c .array)) (length bytes) p (length r) h .room) in rw (e .1, e .2)

@@ -10,6 +10,6 @@ pub mod Reading
 pub mod Busy
 pub mod Missed
 pub mod Protection
-pub mod Edges
+pub mod Limits
 pub mod Older
 pub mod Worked

@@ -37,16 +37,15 @@ pub record Reply : Type 0 where
 unfoldable pub sent : Chip → List ℕ → ℕ → Bool → Outcome
 sent c bytes pulses w = transacted (c .device) (c .array) bytes pulses w (replicate (length bytes) 0)
 
+-- the chip as a transaction leaves it
+abbrev pub left : Outcome → Chip
+left o = record { device = o .device; array = o .array }
+
 -- the chip after one event
 abbrev pub after : Event → Chip → Chip
-after (sends bytes pulses w) c = record { device = sent c bytes pulses w .device; array = sent c bytes pulses w .array }
+after (sends bytes pulses w) c = left (sent c bytes pulses w)
 after (waits t) c = record { device = waitCall (c .device) t .device; array = c .array }
 after starts c = record { device = powerUpCall (c .device) .device; array = c .array }
-
--- the chip after a transaction call with whatever response
-abbrev pub called : Chip → List ℕ → ℕ → Bool → List ℕ → Chip
-called c bytes pulses w response =
-    record { device = transacted (c .device) (c .array) bytes pulses w response .device; array = transacted (c .device) (c .array) bytes pulses w response .array }
 
 -- what the caller sees of one event
 abbrev pub reply : Event → Chip → Reply

@@ -1,21 +1,21 @@
--- Document 02, Wish 8: what hardware protection is worth, and its edges.
+-- Document 02, Wish 8: what hardware protection is worth, and its limits.
 use mathlib.Core.Path.{_≡_}
 use mathlib.Core.Bool.{Bool, true, false, not}
 use mathlib.Core.List.{List, [], _∷_, _++_, map}
-use mathlib.Core.Logic.{_⊎_}
 use Prim.Native.Nat.{ℕ, _<_}
 use lib.ListN.{length, getD}
 use Rattle.parts.specs.Parts.{figuresOf}
 use Rattle.device.specs.declared.Mode.the-variants.{Standby}
 use Rattle.device.specs.declared.Device.{Device}
-use Rattle.chip.specs.Answers.{inProtected}
-use Rattle.chip.specs.Events.{Chip, Good, Event, sends, waits, starts, every, Reply, called, after, run, story}
+use Rattle.chip.specs.Answers.{hostNumber, inProtected}
+use Rattle.chip.specs.Outcome.{transacted}
+use Rattle.chip.specs.Events.{Chip, Good, Event, sends, waits, starts, every, Reply, left, after, run, story}
 use Rattle.chip.specs.Worked.{bench, fresh}
 
 -- ---- from where, and over what
 
 -- a sound record in standby with SRWD set, its latch set or not, beside an array of the part's length
-pub record Frozen (c : Chip) : Type 0 where
+pub record Armed (c : Chip) : Type 0 where
   pub good : Good c
   pub standby : c .device .mode ≡ Standby
   pub srwd : c .device .srwd ≡ true
@@ -40,20 +40,24 @@ pub record Kept (was is : Chip) : Type 0 where
   pub part : is .device .part ≡ was .device .part
   pub long : length (is .array) ≡ length (was .array)
 
+-- the theorem: what stays, when, and for which calls
 pub record HardwareProtects : Type 0 where
-  -- over any list of such events
-  pub ends : (c : Chip) → Frozen c → (es : List Event) → every wLow es ≡ true → Kept c (run es c)
+  -- from such a chip, over any list of such events
+  pub ends : (c : Chip) → Armed c → (es : List Event) → every wLow es ≡ true → Kept c (run es c)
   -- and after each event of it: `es` are those so far, `later` those to come
-  pub each : (c : Chip) → Frozen c → (es later : List Event) → every wLow (es ++ later) ≡ true → Kept c (run es c)
-  -- an event is a call with a response of its own length; a call with whatever response leaves the chip as the event does, or, refused by the host side, as it was
-  pub calls : (c : Chip) (bytes : List ℕ) (pulses : ℕ) (w : Bool) (response : List ℕ)
-      → (called c bytes pulses w response ≡ after (sends bytes pulses w) c) ⊎ (called c bytes pulses w response ≡ c)
+  pub each : (c : Chip) → Armed c → (es later : List Event) → every wLow (es ++ later) ≡ true → Kept c (run es c)
+  -- an event has a response of its own length. With whatever response: a call that the host side refuses leaves the chip as it was
+  pub refused : (c : Chip) (bytes : List ℕ) (pulses : ℕ) (w : Bool) (response : List ℕ) → (hostNumber (c .device) (length (c .array)) (length bytes) pulses (length response) ≡ 0 → ⊥)
+      → left (transacted (c .device) (c .array) bytes pulses w response) ≡ c
+  -- and any other leaves it as the event does
+  pub taken : (c : Chip) (bytes : List ℕ) (pulses : ℕ) (w : Bool) (response : List ℕ) → hostNumber (c .device) (length (c .array)) (length bytes) pulses (length response) ≡ 0
+      → left (transacted (c .device) (c .array) bytes pulses w response) ≡ after (sends bytes pulses w) c
 
--- ---- its edges: nothing of the above can be left out
+-- ---- its limits: SRWD set at the start, and W low in every transaction, are both needed
 
 -- the bench part in standby with BP 1, by SRWD, the latch reset, the array all FF: the highest sector, from byte 3,072 on, is protected
-abbrev pub edge : Bool → Chip
-edge srwd = fresh (bench 1 srwd false)
+abbrev pub start : Bool → Chip
+start srwd = fresh (bench 1 srwd false)
 
 -- write enable; a status write of 00, with W at this level; its two ticks; write enable; a program of 00 at byte 3,072. W is low in the other three
 abbrev pub attempt : Bool → List Event
@@ -70,11 +74,12 @@ pub record Tried : Type 0 where
 -- by SRWD at the start and W at the status write
 abbrev pub tried : Bool → Bool → Tried
 tried srwd w =
-    let c = run (attempt w) (edge srwd) in
-    record { numbers = map (λ (r : Reply). r .answer .number) (story (attempt w) (edge srwd)); bp = c .device .bp; srwd = c .device .srwd; byte = getD (c .array) 3072 0 }
+    let c = run (attempt w) (start srwd) in
+    record { numbers = map (λ (r : Reply). r .answer .number) (story (attempt w) (start srwd)); bp = c .device .bp; srwd = c .device .srwd; byte = getD (c .array) 3072 0 }
 
-pub record Edges : Type 0 where
-  pub frozen : Frozen (edge true)
+-- the same attempt three times
+pub record Limits : Type 0 where
+  pub armed : Armed (start true)
   -- SRWD set and W low throughout: the status write gets 18, the program 17, and all stays
   pub low : tried true false ≡ record { numbers = 0 ∷ 18 ∷ 0 ∷ 0 ∷ 17 ∷ []; bp = 1; srwd = true; byte = 0xFF }
   -- SRWD set, W high in one transaction: both are executed
@@ -82,5 +87,5 @@ pub record Edges : Type 0 where
   -- W low throughout, SRWD not set at the start: both are executed, too
   pub reset : tried false false ≡ record { numbers = 0 ∷ 0 ∷ 0 ∷ 0 ∷ 0 ∷ []; bp = 0; srwd = false; byte = 0x00 }
   -- so the protection is undone in either case
-  pub high-undoes : Kept (edge true) (run (attempt true) (edge true)) → ⊥
-  pub reset-undoes : Kept (edge false) (run (attempt false) (edge false)) → ⊥
+  pub high-undoes : Kept (start true) (run (attempt true) (start true)) → ⊥
+  pub reset-undoes : Kept (start false) (run (attempt false) (start false)) → ⊥

@@ -283,5 +283,16 @@ last-wants = record {
       ∷ misses ((0x02 ∷ 0 ∷ 0 ∷ 0 ∷ 0xFF ∷ []) ++ (replicate 255 0xFF ++ (0x03 ∷ []))) 3 ∷ [];
 }
 
+-- hardware protection entered by a status write with W low, and W low in all that follows: SRWD and BP 1 set, `0100` gives 18 and a program in the highest sector 17, before power-up and after; below that sector a program is executed
+abbrev pub entered-low : Case
+entered-low = record {
+  device = usual;
+  steps =
+      told false 0 (0x01 ∷ 0x84 ∷ []) 0 ∷ waits 2 ∷ told false 0 (0x06 ∷ []) 0 ∷ told false 0 (0x01 ∷ 0 ∷ []) 18 ∷ told false 0 (0x02 ∷ 0 ∷ 0x0C ∷ 0 ∷ 0 ∷ []) 17
+      ∷ starts ∷ told false 0 (0x06 ∷ []) 0 ∷ told false 0 (0x01 ∷ 0 ∷ []) 18 ∷ told false 0 (0x02 ∷ 0 ∷ 0x0C ∷ 0 ∷ 0 ∷ []) 17
+      ∷ told false 0 (0x02 ∷ 0 ∷ 0x0B ∷ 0xFF ∷ 0 ∷ []) 0 ∷ waits 3 ∷ holds 3071 0 ∷ holds 3072 0xFF
+      ∷ sends false 0 (0x05 ∷ 0 ∷ []) (record { number = 0; first = 1; count = 1; missing = 0 }) (0xFF ∷ 0x84 ∷ []) ∷ [];
+}
+
 unfoldable pub further : List Case
-further = low-alone ∷ low-program ∷ busy-unknown ∷ roll-over ∷ two-bits ∷ three-bits ∷ wraps ∷ erases ∷ names ∷ older ∷ older-busy ∷ older-deep ∷ one-tick ∷ last-tick ∷ rewrite ∷ wrapped-rewrite ∷ last-wants ∷ []
+further = low-alone ∷ low-program ∷ entered-low ∷ busy-unknown ∷ roll-over ∷ two-bits ∷ three-bits ∷ wraps ∷ erases ∷ names ∷ older ∷ older-busy ∷ older-deep ∷ one-tick ∷ last-tick ∷ rewrite ∷ wrapped-rewrite ∷ last-wants ∷ []

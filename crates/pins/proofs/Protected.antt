@@ -1,4 +1,4 @@
--- Wish 8 of raw pins: from a chip with SRWD set, W low as each transaction ends, a run keeps what hardware protection keeps.
+-- Wish 8 of raw pins: with W low as each transaction ends, a run's transactions are such as hardware protection speaks of.
 -- Assumes nothing.
 use mathlib.Core.Path.{_≡_, refl}
 use mathlib.Core.Bool.{true, false}
@@ -11,7 +11,7 @@ use Rattle.device.specs.declared.Device.{Device}
 use Rattle.device.specs.Device.{onZero}
 use Rattle.chip.specs.declared.Done.{Done}
 use Rattle.chip.specs.Events.{every}
-use Rattle.chip.specs.Protection.{Frozen, wLow, Kept}
+use Rattle.chip.specs.Protection.{Armed, wLow, Kept}
 use Rattle.chip.proofs.Events.{every-append}
 use Rattle.chip.proofs.Protection.{kept-none, hardware-protects}
 use Rattle.pins.specs.declared.levels.Levels.{Levels}
@@ -23,7 +23,6 @@ use Rattle.pins.proofs.Carried.{ending, events-append}
 abbrev pub LowAsItEnds : Seen → List ℕ → Type 0
 LowAsItEnds x samples = (i : ℕ) → i < length samples → ends (seenFrom x (take i samples) .pins) (levelsOf (getD samples i 0)) ≡ true → levelsOf (getD samples i 0) .w ≡ false
 
--- then it is low in each transaction found
 low-next : (x : Seen) (now : Levels) → every wLow (eventsOf (x .found)) ≡ true → (ends (x .pins) now ≡ true → now .w ≡ false) → every wLow (eventsOf (step x now .found)) ≡ true
 unfolding step nextFound
 low-next x now h l =
@@ -34,17 +33,22 @@ low-found : (x : Seen) (samples : List ℕ) → every wLow (eventsOf (x .found))
 low-found x [] h l = h
 low-found x (s ∷ samples) h l = low-found (step x (levelsOf s)) samples (low-next x (levelsOf s) h (l 0 (omega arith))) (λ i lt. l (suc i) (omega arith))
 
--- whatever the run answers
-pub run-protects : {d : Device} {array samples output : List ℕ} {r : Done} {array′ output′ : List ℕ} → Ran d array samples output r array′ output′ → Frozen (record { device = d; array = array })
+-- then it is low in each transaction found: a run's transactions, carried out in order, are a list of such events
+pub found-low : (samples : List ℕ) → LowAsItEnds atRest samples → every wLow (eventsOf (seen samples .found)) ≡ true
+unfolding seen atRest
+found-low samples l = low-found atRest samples refl l
+
+-- one run from such a chip, whatever it answers
+pub run-protects : {d : Device} {array samples output : List ℕ} {r : Done} {array′ output′ : List ℕ} → Ran d array samples output r array′ output′ → Armed (record { device = d; array = array })
     → LowAsItEnds atRest samples → Kept (record { device = d; array = array }) (record { device = r .device; array = array′ })
-unfolding chipAfter seen atRest
+unfolding chipAfter
 run-protects {d} {array} {samples} {output} {r} {array′} ran f l = go (runAnswer d (length array) samples (length output)) (ran .device) (ran .memory)
   where
     c : Chip
     c = record { device = d; array = array }
 
     kept : Kept c (chipAfter d array samples)
-    kept = hardware-protects .ends c f (eventsOf (seen samples .found)) (low-found atRest samples refl l)
+    kept = hardware-protects .ends c f (eventsOf (seen samples .found)) (found-low samples l)
 
     go : (k : ℕ) → r .device ≡ onZero k (chipAfter d array samples .device) d → array′ ≡ onZero k (chipAfter d array samples .array) array → Kept c (record { device = r .device; array = array′ })
     go zero e g = rw (e, g) kept

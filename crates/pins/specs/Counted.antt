@@ -10,6 +10,7 @@ use Rattle.device.specs.declared.Device.{Device}
 use Rattle.chip.specs.Line.{driven}
 use Rattle.chip.specs.Line.{lineByte}
 use Rattle.chip.specs.Outcome.{transacted}
+use Rattle.chip.specs.Events.{left}
 use Rattle.pins.specs.declared.levels.Levels.{Levels}
 use Rattle.pins.specs.declared.underway.Underway.{Underway}
 use Rattle.pins.specs.Pins.{Pins, changes, takes, moves, ends, shifted, Taking}
@@ -98,9 +99,7 @@ pub record Clocked (u : Underway) (d : Device) (array sent : List ℕ) (p : Pins
 -- with the transaction that ends with a sample carried out
 unfoldable pub endedWith : Chip → Pins → Levels → List ℕ → ℕ → List ℕ → Chip
 endedWith c p now sent pulses response =
-    cond (ends p now)
-    (record { device = transacted (c .device) (c .array) sent pulses (now .w) response .device; array = transacted (c .device) (c .array) sent pulses (now .w) response .array })
-    c
+    cond (ends p now) (left (transacted (c .device) (c .array) sent pulses (now .w) response)) c
 
 -- the bits missing in it
 unfoldable pub missedWith : Chip → Pins → Levels → List ℕ → ℕ → List ℕ → ℕ

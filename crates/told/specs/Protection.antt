@@ -13,9 +13,9 @@ use Rattle.device.specs.declared.Mode.the-variants.{Standby, Busy, Deep}
 use Rattle.device.specs.Device.{sound, latchAt}
 use Rattle.chip.specs.Answers.{inProtected}
 use Rattle.chip.specs.Events.{Chip, sends, waits, starts, every}
-use Rattle.chip.specs.Protection.{Frozen, wLow, isProtected, Kept}
+use Rattle.chip.specs.Protection.{Armed, wLow, isProtected, Kept}
 use Rattle.chip.specs.Worked.{record-of}
-use Rattle.told.specs.Effects.{part, four, eight}
+use Rattle.told.specs.Effects.{part, four}
 
 -- whether the byte below a place and the byte there are protected, for BP b and up, each with its own place
 abbrev pub begins : ℕ → ℕ → List ℕ → List (List Bool)
@@ -45,24 +45,19 @@ pub record Protection : Type 0 where
   pub high : map wLow (sends [] 0 true ∷ sends (0x01 ∷ 0x00 ∷ []) 9 true ∷ []) ≡ false ∷ false ∷ []
   pub all-low : every wLow [] ∷ every wLow (sends [] 0 false ∷ waits 7 ∷ starts ∷ sends [] 0 false ∷ []) ∷ [] ≡ true ∷ true ∷ []
   pub one-high : every wLow (sends [] 0 true ∷ waits 7 ∷ sends [] 0 false ∷ []) ∷ every wLow (sends [] 0 false ∷ waits 7 ∷ sends [] 0 true ∷ []) ∷ [] ≡ false ∷ false ∷ []
-  -- where the protected bytes begin, for BP 1 and up, until all are protected
+  -- where the protected bytes begin, on the smallest and the largest part, for BP 1 and up, until all are protected
   pub bench : begins 0 1 (3072 ∷ 2048 ∷ []) ≡ replicate 2 (false ∷ true ∷ [])
-  pub m25p10a : begins 1 1 (98304 ∷ 65536 ∷ []) ≡ replicate 2 (false ∷ true ∷ [])
-  pub m25p40 : begins 2 1 (458752 ∷ 393216 ∷ 262144 ∷ []) ≡ replicate 3 (false ∷ true ∷ [])
-  pub m25p32 : begins 3 1 (4128768 ∷ 4063232 ∷ 3932160 ∷ 3670016 ∷ 3145728 ∷ 2097152 ∷ []) ≡ replicate 6 (false ∷ true ∷ [])
   pub m25p128 : begins 4 1 (16515072 ∷ 16252928 ∷ 15728640 ∷ 14680064 ∷ 12582912 ∷ 8388608 ∷ []) ≡ replicate 6 (false ∷ true ∷ [])
-  pub older : begins 5 1 (98304 ∷ 65536 ∷ []) ≡ replicate 2 (false ∷ true ∷ [])
-  -- the first byte and the last
-  pub firsts : under 0 four 0 ∷ under 2 eight 0 ∷ under 4 eight 0 ∷ [] ≡ (false ∷ false ∷ false ∷ true ∷ []) ∷ (false ∷ false ∷ false ∷ false ∷ true ∷ true ∷ true ∷ true ∷ []) ∷ (false ∷ false ∷ false ∷ false ∷ false ∷ false ∷ false ∷ true ∷ []) ∷ []
+  -- the last byte, for BP 0 to 3
   pub lasts : under 0 four 4095 ∷ under 1 four 131071 ∷ under 5 four 131071 ∷ [] ≡ replicate 3 (false ∷ true ∷ true ∷ true ∷ [])
   -- from where: with either latch; not from a cycle, deep power-down, SRWD 0, a BP above the part's, an array with a byte too few
-  pub frozen : (l : Bool) → Frozen (beside 1 true l Standby (long 4096))
-  pub busy : Frozen (beside 1 true true (Busy 2) (long 4096)) → ⊥
-  pub deep : Frozen (beside 1 true true Deep (long 4096)) → ⊥
-  pub reset : Frozen (beside 1 false true Standby (long 4096)) → ⊥
-  pub unsound : Frozen (beside 4 true true Standby (long 4096)) → ⊥
-  pub short : Frozen (beside 1 true true Standby (long 4095)) → ⊥
-  -- kept, where free bytes, latch and mode are others; not kept where BP, SRWD, a protected byte, the part or the length is another
+  pub armed : (l : Bool) → Armed (beside 1 true l Standby (long 4096))
+  pub busy : Armed (beside 1 true true (Busy 2) (long 4096)) → ⊥
+  pub deep : Armed (beside 1 true true Deep (long 4096)) → ⊥
+  pub reset : Armed (beside 1 false true Standby (long 4096)) → ⊥
+  pub unsound : Armed (beside 4 true true Standby (long 4096)) → ⊥
+  pub short : Armed (beside 1 true true Standby (long 4095)) → ⊥
+  -- other free bytes, another latch and another mode do not count; another BP, SRWD, protected byte, part or length does
   pub kept : Kept (two 1 0x5A 0x5A) (beside 1 true false (Busy 1) (0x00 ∷ 0xFF ∷ []))
   pub other-bp : Kept (two 3 0x5A 0x5A) (two 2 0x5A 0x5A) → ⊥
   pub other-srwd : Kept (two 3 0x5A 0x5A) (beside 3 false true Standby (0x5A ∷ 0x5A ∷ [])) → ⊥
@@ -87,14 +82,9 @@ protects = record {
   all-low = refl;
   one-high = refl;
   bench = refl;
-  m25p10a = refl;
-  m25p40 = refl;
-  m25p32 = refl;
   m25p128 = refl;
-  older = refl;
-  firsts = refl;
   lasts = refl;
-  frozen = λ l. record { good = record { sound = refl; whole = length-replicate {A = ℕ} 4096 0xFF }; standby = refl; srwd = refl };
+  armed = λ l. record { good = record { sound = refl; whole = length-replicate {A = ℕ} 4096 0xFF }; standby = refl; srwd = refl };
   busy = λ f. let z : _≡_ {A = ℕ} 0 1 = cc (f .standby) in omega arith;
   deep = λ f. let z : _≡_ {A = ℕ} 0 1 = cc (f .standby) in omega arith;
   reset = λ f. false≢true (f .srwd);

@@ -87,6 +87,14 @@ pub struct Side {
 }
 
 impl Side {
+    /// A chip of the part with random contents, and the given record.
+    pub fn new(start: Record, rng: &mut Rng) -> Side {
+        let mut record = rng.bytes(RECORD_BYTES + SPARE);
+        record[..RECORD_BYTES].copy_from_slice(&start.pack());
+        let array = Buffer::from(rng.bytes(PARTS[start.part as usize].bytes + SPARE));
+        Side { record, array, filled: vec![] }
+    }
+
     /// Puts in place what the step brings.
     pub fn prepare(&mut self, step: &Step) {
         if let Some(record) = step.record {
@@ -102,8 +110,7 @@ impl Side {
         (&mut self.record[..step.record_len], &mut self.array[..step.array_len], filled)
     }
 
-    /// Makes the call of the library; its 64 bits.
-    pub fn call(&mut self, step: &Step) -> u64 {
+    fn call(&mut self, step: &Step) -> u64 {
         let (record, array, mut filled) = self.lend(step);
         let reply = match &step.call {
             Call::Deliver { part, durations } => {
@@ -153,12 +160,8 @@ pub struct Pair {
 impl Pair {
     /// A chip of the part with random contents, and the given record.
     pub fn new(start: Record, rules: Rules, rng: &mut Rng) -> Pair {
-        let part = start.part as usize;
-        let mut record = rng.bytes(RECORD_BYTES + SPARE);
-        record[..RECORD_BYTES].copy_from_slice(&start.pack());
-        let array = Buffer::from(rng.bytes(PARTS[part].bytes + SPARE));
-        let real = Side { record, array, filled: vec![] };
-        Pair { part, rules, modelled: real.clone(), real }
+        let real = Side::new(start, rng);
+        Pair { part: start.part as usize, rules, modelled: real.clone(), real }
     }
 
     /// The record between two calls, which is sound and of this part.

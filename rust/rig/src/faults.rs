@@ -49,6 +49,7 @@ pub const CHIP: &[(&str, &dyn Model)] = named![
     ZeroBytesUnchecked,
     DurationBeforeLength,
     PowerUpKeepsDeep,
+    PowerUpClearsSettings,
     OlderIdentifies,
     NeitherIdentifies,
     CountsWhereNoDataWent,
@@ -399,6 +400,19 @@ impl Model for PowerUpKeepsDeep {
         let outcome = Paper.power_up(record);
         if deep {
             amend(record, |r| r.mode = Mode::Deep);
+        }
+        outcome
+    }
+}
+
+/// Power-up resets BP and SRWD.
+struct PowerUpClearsSettings;
+
+impl Model for PowerUpClearsSettings {
+    fn power_up(&self, record: &mut [u8]) -> Outcome {
+        let outcome = Paper.power_up(record);
+        if outcome.answer == 0 {
+            amend(record, |r| (r.bp, r.srwd) = (0, false));
         }
         outcome
     }

@@ -1,39 +1,60 @@
-//! What hardware protection is worth (Wish 8), on libm25p.a alone: from a chip in standby with SRWD set, random
-//! transactions and runs of raw pins with W low, waits and power-ups leave BP, SRWD and each byte of a protected
-//! sector as they were. The model only says which sectors are protected.
+//! What hardware protection is worth (Wish 8), on libm25p.a: from a chip in standby with SRWD set, random
+//! transactions with W low, runs of raw pins with W low as Select rises, waits and power-ups leave BP, SRWD and each
+//! byte of a protected sector as they were. Which sectors are protected is told by the paper's table.
 
-use m25p::{Answer, Buffer, Chip, Durations, Part};
-use rig::compare::{Call, Rules, Side, Source, Step, PAPER, SPARE};
+use m25p::{Answer, Chip, Durations, Part};
+use rig::compare::{Call, Pair, Rules, Seen, Side, Source, Step, Tally, PAPER};
 use rig::faults;
 use rig::generate::Generator;
 use rig::model::{Mode, Record, PARTS, PP, RDSR, RECORD_BYTES, SMALL, WREN, WRSR};
 use rig::pins_generate::PinsGenerator;
-use rig::pins_model::W;
+use rig::pins_model::{REST, SELECT, W};
 use rig::rng::Rng;
 
 /// Calls from one start, and how many of them go by until a large array is looked at again.
-const CALLS: usize = 2_000;
+const CALLS: usize = 1_000;
 const INTERVAL: usize = 100;
 
-/// How a call is made; its answer number.
-type Making<'a> = &'a dyn Fn(&mut Side, &Step) -> u8;
-
-fn library(side: &mut Side, step: &Step) -> u8 {
-    side.call(step) as u8
+/// A chip on which the calls are made.
+trait Tried {
+    fn new(start: Record, rules: Rules, rng: &mut Rng) -> Self;
+    fn step(&mut self, step: &Step) -> Result<Seen, String>;
+    fn side(&self) -> &Side;
 }
 
-/// A random call, refused ones too, with W low; no delivery, and always on the record as it is.
-fn with_w_low(source: &mut impl Source, now: &Record) -> Step {
-    loop {
-        let mut step = source.step(now);
-        step.record = None;
-        match &mut step.call {
-            Call::Deliver { .. } => continue,
-            Call::Transact { w, .. } => *w = 0,
-            Call::Pins { samples } => samples.iter_mut().for_each(|sample| *sample &= !W),
-            Call::Wait(_) | Call::PowerUp => {}
-        }
-        return step;
+/// The library; the model beside it tells what the chip answered within a run of raw pins.
+impl Tried for Pair {
+    fn new(start: Record, rules: Rules, rng: &mut Rng) -> Pair {
+        Pair::new(start, rules, rng)
+    }
+
+    fn step(&mut self, step: &Step) -> Result<Seen, String> {
+        self.step(step, &mut Tally::default())
+    }
+
+    fn side(&self) -> &Side {
+        &self.real
+    }
+}
+
+/// The model alone, to put a fault into it.
+struct Modelled {
+    side: Side,
+    rules: Rules,
+}
+
+impl Tried for Modelled {
+    fn new(start: Record, rules: Rules, rng: &mut Rng) -> Modelled {
+        Modelled { side: Side::new(start, rng), rules }
+    }
+
+    fn step(&mut self, step: &Step) -> Result<Seen, String> {
+        self.side.prepare(step);
+        Ok(self.side.model_call(step, self.rules))
+    }
+
+    fn side(&self) -> &Side {
+        &self.side
     }
 }
 
@@ -60,117 +81,131 @@ impl Source for Probing {
     }
 }
 
-/// Where the protected bytes of a record's part begin.
-fn protected_from(r: &Record) -> usize {
-    let part = &PARTS[r.part as usize];
-    (part.sectors - part.protected[r.bp as usize]) * part.sector_bytes
-}
-
-/// A chip in standby with SRWD set, as it started.
-struct Guarded {
-    side: Side,
-    start: Side,
-    from: usize,
-}
-
-impl Guarded {
-    fn new(start: Record, rng: &mut Rng) -> Guarded {
-        let mut record = rng.bytes(RECORD_BYTES + SPARE);
-        record[..RECORD_BYTES].copy_from_slice(&start.pack());
-        let array = Buffer::from(rng.bytes(PARTS[start.part as usize].bytes + SPARE));
-        let side = Side { record, array, filled: vec![] };
-        Guarded { start: side.clone(), side, from: protected_from(&start) }
-    }
-
-    fn record(&self) -> Record {
-        Record::unpack(&self.side.record[..RECORD_BYTES]).expect("a sound record between two calls")
-    }
-
-    /// Part, BP and SRWD, which are the first three bytes, are as they were.
-    fn settings_stay(&self) -> bool {
-        self.side.record[..3] == self.start.record[..3]
-    }
-
-    fn bytes_stay(&self) -> bool {
-        self.side.array[self.from..] == self.start.array[self.from..]
+/// W is low in each sample in which Select rises, and as it was in the others.
+fn low_as_select_rises(samples: &mut [u8]) {
+    let mut before = REST;
+    for sample in samples {
+        if before & SELECT == 0 && *sample & SELECT != 0 {
+            *sample &= !W;
+        }
+        before = *sample;
     }
 }
 
-/// How often each answer came.
+/// A random call, refused ones too, with W low; no delivery, and none on another record.
+fn with_w_low(source: &mut impl Source, now: &Record) -> Step {
+    loop {
+        let mut step = source.step(now);
+        match &mut step.call {
+            Call::Deliver { .. } => continue,
+            Call::Transact { w, .. } => *w = 0,
+            Call::Pins { samples } => low_as_select_rises(samples),
+            Call::Wait(_) | Call::PowerUp => {}
+        }
+        if step.record.is_none() {
+            return step;
+        }
+    }
+}
+
+/// How often each answer of the chip or the host side came, those within a run of raw pins singly.
 type Answers = [u64; 32];
 
-/// Many calls with W low on one chip: what did not stay, in words.
-fn endures<S: Source>(
+fn count(answers: &mut Answers, call: &Call, seen: &Seen) {
+    match call {
+        Call::Pins { .. } => seen.chip.iter().for_each(|one| answers[one.answer as usize] += 1),
+        _ => answers[seen.answer() as usize] += 1,
+    }
+}
+
+/// Many calls with W low from one start: what did not stay, in words.
+fn endures<S: Source, T: Tried>(
     start: Record,
     seed: u64,
-    make: Making,
+    rules: Rules,
     answers: &mut Answers,
 ) -> Result<(), String> {
     let mut rng = Rng::new(seed);
+    let part = start.figures();
     let mut source = S::new(start.part as usize, rng.draw());
-    let mut chip = Guarded::new(start, &mut rng);
-    let small = SMALL.contains(&(start.part as usize));
+    let mut chip = T::new(start, rules, &mut rng);
+    let was = chip.side().clone();
+    let protected = (part.sectors - part.protected[start.bp as usize]) * part.sector_bytes..;
+    let told = |what: &str, call| format!("{start:?}, seed {seed}, call {call}: {what}");
     for call in 1..=CALLS {
-        let step = with_w_low(&mut source, &chip.record());
-        chip.side.prepare(&step);
-        answers[make(&mut chip.side, &step) as usize] += 1;
-        if !chip.settings_stay() {
-            return Err(format!("{start:?}, seed {seed}: BP or SRWD changed at call {call}"));
+        let record = &chip.side().record[..RECORD_BYTES];
+        let step = with_w_low(&mut source, &Record::unpack(record).expect("a sound record"));
+        let seen = chip.step(&step).map_err(|difference| told(&difference, call))?;
+        count(answers, &step.call, &seen);
+        // part, BP and SRWD are the first three bytes
+        if chip.side().record[..3] != was.record[..3] {
+            return Err(told("BP or SRWD is another", call));
         }
-        if (small || call % INTERVAL == 0) && !chip.bytes_stay() {
-            return Err(format!("{start:?}, seed {seed}: a protected byte changed by call {call}"));
+        let look = SMALL.contains(&(start.part as usize)) || call % INTERVAL == 0;
+        if look && chip.side().array[protected.clone()] != was.array[protected.clone()] {
+            return Err(told("a protected byte is another", call));
         }
     }
     Ok(())
 }
 
-/// Every BP of the part with SRWD set, the latch set or not, and short durations.
-fn starts(part: usize) -> impl Iterator<Item = Record> {
-    let of = move |bp, latch| Record { bp, latch, srwd: true, ..Record::standby(part as u8) };
-    (0..=PARTS[part].highest_bp).flat_map(move |bp| [of(bp, false), of(bp, true)])
-}
-
-/// The calls with W low from every start of these parts.
-fn endure<S: Source>(parts: &[usize], make: Making) -> Result<Answers, String> {
+/// Calls with W low from every BP of the part with SRWD set, the latch set or not.
+fn endure<S: Source, T: Tried>(part: usize, rules: Rules) -> Result<Answers, String> {
     let mut seeds = Rng::new(8);
     let mut answers = [0; 32];
-    for start in parts.iter().flat_map(|part| starts(*part)) {
-        endures::<S>(start, seeds.draw(), make, &mut answers)?;
+    for bp in 0..=PARTS[part].highest_bp {
+        for latch in [false, true] {
+            let start = Record { bp, latch, srwd: true, ..Record::standby(part as u8) };
+            endures::<S, T>(start, seeds.draw(), rules, &mut answers)?;
+        }
     }
     Ok(answers)
 }
 
+/// The library keeps what is protected, and each of these numbers came often.
+fn library_keeps<S: Source>(part: usize, numbers: &[usize]) {
+    let answers = endure::<S, Pair>(part, PAPER).unwrap_or_else(|e| panic!("{e}"));
+    for number in numbers {
+        let times = answers[*number];
+        assert!(times >= 20, "part {part}: answer {number} came {times} times only");
+    }
+}
+
 #[test]
 fn w_low_keeps_what_is_protected() {
-    let answers =
-        endure::<Generator>(&[0, 1, 2, 3, 4, 5], &library).unwrap_or_else(|e| panic!("{e}"));
-    for number in [0, 2, 3, 4, 5, 8, 11, 12, 13, 14, 15, 16, 17, 18] {
-        let times = answers[number];
-        assert!(times >= 20, "answer {number} came {times} times only");
+    for part in 0..PARTS.len() {
+        library_keeps::<Generator>(part, &[0, 2, 4, 5, 11, 12, 14, 15, 16, 17, 18]);
     }
 }
 
 #[test]
 fn w_low_keeps_it_over_raw_pins() {
-    let answers = endure::<Probing>(&SMALL, &library).unwrap_or_else(|e| panic!("{e}"));
-    let done = answers[0];
-    assert!(done >= 10_000, "{done} runs, waits and power-ups only were carried out");
-}
-
-/// The same calls notice a chip that gives way.
-#[test]
-fn chips_that_give_way_are_seen() {
-    for name in ["NeverFrozen", "FrozenAtBpZeroAlone", "ProtectedWithWHighAlone", "RunOnPage"] {
-        let fault =
-            faults::CHIP.iter().find(|fault| fault.0 == name).expect("a fault of that name");
-        let rules = Rules { chip: fault.1, ..PAPER };
-        let seen = endure::<Generator>(&SMALL, &|side, step| side.model_call(step, rules).answer());
-        assert!(seen.is_err(), "{name} was not seen");
+    for part in SMALL {
+        library_keeps::<Probing>(part, &[0, 12, 16, 17, 18]);
     }
 }
 
-/// On a delivered chip these settings are made, with W high. Then with W low, but for the status write perhaps: write
-/// enable, a status write of 00, write enable, a program of 00 at the last byte. The answers, the status, the byte.
+/// The same calls on the small parts notice a chip that gives way.
+#[test]
+fn chips_that_give_way_are_seen() {
+    let give_way = [
+        "NeverFrozen",
+        "FrozenAtBpZeroAlone",
+        "ProtectedWithWHighAlone",
+        "RunOnPage",
+        "PowerUpClearsSettings",
+    ];
+    for name in give_way {
+        let fault = faults::CHIP.iter().find(|fault| fault.0 == name).expect("a fault so named");
+        let rules = Rules { chip: fault.1, ..PAPER };
+        let seen = SMALL.iter().any(|part| endure::<Generator, Modelled>(*part, rules).is_err());
+        assert!(seen, "{name} was not seen");
+    }
+}
+
+/// On a delivered chip these settings are made, with W high. Then with W low, but for the status write perhaps:
+/// write enable, a status write of 00, write enable, a program of 00 at the last byte. The answers, the status, the
+/// byte.
 fn attempt(part: Part, settings: u8, w_high_at_status_write: bool) -> (Vec<Answer>, u8, u8) {
     let ticks = Durations::default().write_status;
     let mut chip = Chip::deliver(part, Durations::default()).expect("a delivery");
@@ -191,13 +226,13 @@ fn attempt(part: Part, settings: u8, w_high_at_status_write: bool) -> (Vec<Answe
     (answers, status, chip.array()[last])
 }
 
-/// Its edges, on every part: W high in one transaction, or SRWD not set at the start.
+/// Its limits, on every part: W high in one transaction, or SRWD not set at the start.
 #[test]
 fn w_high_once_or_srwd_reset_undoes_it() {
     use Answer::{Executed, Protected, StatusFrozen};
     for part in Part::ALL {
-        let frozen = vec![Executed, StatusFrozen, Executed, Protected];
-        assert_eq!(attempt(part, 0x84, false), (frozen, 0x84, 0xFF), "{part:?}");
+        let kept = vec![Executed, StatusFrozen, Executed, Protected];
+        assert_eq!(attempt(part, 0x84, false), (kept, 0x84, 0xFF), "{part:?}");
         assert_eq!(attempt(part, 0x84, true), (vec![Executed; 4], 0x00, 0x00), "{part:?}");
         assert_eq!(attempt(part, 0x04, false), (vec![Executed; 4], 0x00, 0x00), "{part:?}");
     }

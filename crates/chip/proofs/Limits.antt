@@ -1,4 +1,4 @@
--- The edges of hardware protection, computed: W high once, or SRWD not set, undoes it.
+-- The limits of hardware protection, computed: W high once, or SRWD not set, undoes it.
 -- Assumes nothing.
 use mathlib.Core.Path.{_≡_, refl}
 use mathlib.Core.Bool.{Bool, true, false}
@@ -16,20 +16,20 @@ use Rattle.chip.specs.Answers.{hostNumber, inProtected, asNeeded, chipNu
 use Rattle.chip.specs.Change.{cycleOf, changed, bpIn, turned}
 use Rattle.chip.specs.Outcome.{outcomeOf, transacted}
 use Rattle.chip.specs.Events.{sent, run}
-use Rattle.chip.specs.Protection.{Kept, edge, attempt, tried, Edges}
+use Rattle.chip.specs.Protection.{Kept, start, attempt, tried, Limits}
 
 -- byte 3,072 is protected and FF at the start: where it is 00 at the end, it was not kept
-undone : (s w : Bool) → tried s w .byte ≡ 0x00 → Kept (edge s) (run (attempt w) (edge s)) → ⊥
+undone : (s w : Bool) → tried s w .byte ≡ 0x00 → Kept (start s) (run (attempt w) (start s)) → ⊥
 unfolding figuresOf protectedOf inProtected
 undone s w z k =
-    let l : length (edge s .array) ≡ 4096 = length-replicate {A = ℕ} 4096 0xFF in
-    let e : getD (run (attempt w) (edge s) .array) 3072 0 ≡ 0xFF = k .bytes 3072 (omega arith) refl in
+    let l : length (start s .array) ≡ 4096 = length-replicate {A = ℕ} 4096 0xFF in
+    let e : getD (run (attempt w) (start s) .array) 3072 0 ≡ 0xFF = k .bytes 3072 (omega arith) refl in
     omega arith
 
-pub edges : Edges
+pub limits : Limits
 unfolding sent transacted mapAt window sumAt memory-is.blank memory-is.filled memory-is.programmed memory-is.erased figuresOf protectedOf waitCall soundAnswer waited sound moded latched settled running latchAt rowOf addressOf hostNumber inProtected asNeeded chipNumber decided verdictOf noSlots cycleOf touched changed bpIn turned outcomeOf
-edges = record {
-  frozen = record { good = record { sound = refl; whole = length-replicate {A = ℕ} 4096 0xFF }; standby = refl; srwd = refl };
+limits = record {
+  armed = record { good = record { sound = refl; whole = length-replicate {A = ℕ} 4096 0xFF }; standby = refl; srwd = refl };
   low = refl;
   high-once = refl;
   reset = refl;
