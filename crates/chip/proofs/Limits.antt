@@ -5,12 +5,12 @@ use mathlib.Core.Bool.{Bool, true, false}
 use Prim.Native.Nat.{ℕ}
 use native.Mathlib.Omega.{arith}
 use lib.ListN.{length, getD, length-replicate}
-use Rattle.slices.specs.Changed.{mapAt, window, sumAt}
-use Rattle.memory.specs.Memory as memory-is
+use Rattle.slices.specs.Changed.{mapAt}
+use Rattle.memory.specs.Memory.{blank, filled, programmed}
 use Rattle.parts.specs.Parts.{figuresOf}
 use Rattle.parts.specs.Protected.{protectedOf}
 use Rattle.device.specs.Device.{waitCall, soundAnswer, waited, sound, moded, latched, settled, running, latchAt}
-use Rattle.device.specs.Cycles.{noSlots, touched}
+use Rattle.device.specs.Cycles.{touched}
 use Rattle.chip.specs.Table.{rowOf, addressOf}
 use Rattle.chip.specs.Answers.{hostNumber, inProtected, asNeeded, chipNumber, decided, verdictOf}
 use Rattle.chip.specs.Change.{cycleOf, changed, bpIn, turned}
@@ -27,7 +27,7 @@ undone s w z k =
     omega arith
 
 pub limits : Limits
-unfolding sent transacted mapAt window sumAt memory-is.blank memory-is.filled memory-is.programmed memory-is.erased figuresOf protectedOf waitCall soundAnswer waited sound moded latched settled running latchAt rowOf addressOf hostNumber inProtected asNeeded chipNumber decided verdictOf noSlots cycleOf touched changed bpIn turned outcomeOf
+unfolding sent transacted mapAt blank filled programmed figuresOf protectedOf waitCall soundAnswer waited sound moded latched settled running latchAt rowOf addressOf hostNumber inProtected asNeeded chipNumber decided verdictOf cycleOf touched changed bpIn turned outcomeOf
 limits = record {
   armed = record { good = record { sound = refl; whole = length-replicate {A = ℕ} 4096 0xFF }; standby = refl; srwd = refl };
   low = refl;
