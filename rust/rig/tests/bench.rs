@@ -172,8 +172,9 @@ fn input(lines: usize, seed: u64) -> Vec<u8> {
 }
 
 #[test]
-fn worked_example() {
+fn worked_examples() {
     check(include_bytes!("../../../examples/first.txt"));
+    check(include_bytes!("../../../examples/protection.txt"));
 }
 
 #[test]
