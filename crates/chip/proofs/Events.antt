@@ -49,6 +49,7 @@ and-assoc : (a b c : Bool) → a && (b && c) ≡ a && b && c
 and-assoc true b c = refl
 and-assoc false b c = refl
 
+-- a test of an appended list
 pub every-append : (test : Event → Bool) (a b : List Event) → every test (a ++ b) ≡ every test a && every test b
 every-append test [] b = refl
 every-append test (e ∷ a) b = ap (λ (t : Bool). test e && t) (every-append test a b) ∙ and-assoc (test e) (every test a) (every test b)
@@ -236,7 +237,7 @@ refused-nothing c bytes p w r h = go (verdict-is (c .device) (length (c .array))
     go (ignores a b) = absurd (h a)
     go (executes a b) = absurd (h a)
 
--- any other leaves the chip as the event does
+-- a call that it does not refuse leaves the chip as the event does, whatever the response
 pub taken-as-event : (c : Chip) (bytes : List ℕ) (p : ℕ) (w : Bool) (r : List ℕ) → hostNumber (c .device) (length (c .array)) (length bytes) p (length r) ≡ 0
     → left (transacted (c .device) (c .array) bytes p w r) ≡ after (sends bytes p w) c
 taken-as-event c bytes p w r h = let e = sent-room c bytes p w r (not-refused (c .device) (length (c .array)) (length bytes) p (length r) h .room) in rw (e .1, e .2)

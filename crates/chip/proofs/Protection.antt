@@ -57,6 +57,7 @@ module _ {f : Figures} (s : Sane f) (d : Device) (at : ℕ) (sent : List ℕ) (i
   kind-spares Sector x free = elsewhere _ x free (eqb (i / f .«sector_bytes») (at / f .«sector_bytes»)) (eqb-true (i / f .«sector_bytes») (at / f .«sector_bytes»))
   kind-spares All x free = let z : d .bp ≡ 0 = omega (arith, ltb-false 0 (d .bp) free) in absurd (none-protected s i lt (rw z at p))
 
+  -- an instruction that 17 does not stop leaves it
   turn-spares : (t : Turn) (x : ℕ) → guarded t f d at ≡ false → changed t f at sent i x ≡ x
   unfolding changed
   turn-spares Keep x free = refl
@@ -86,6 +87,7 @@ module _ (d : Device) (array sent : List ℕ) (pulses : ℕ) (w : Bool) (respons
 
 -- ---- one event
 
+-- BP and SRWD stay
 settings-kept : (e : Event) (c : Chip) → wLow e ≡ true → c .device .srwd ≡ true → SameSettings (c .device) (after e c .device)
 unfolding sent
 settings-kept (sends bytes p w) c l s =
@@ -94,6 +96,7 @@ settings-kept (sends bytes p w) c l s =
 settings-kept (waits t) c l s = wait-rests (c .device) t .settings
 settings-kept starts c l s = power-up-rests (c .device) .settings
 
+-- each byte of a protected sector stays
 bytes-kept : (e : Event) (c : Chip) (i : ℕ) → i < length (c .array) → isProtected (c .device) i ≡ true → getD (after e c .array) i 0 ≡ getD (c .array) i 0
 unfolding sent
 bytes-kept (sends bytes p w) c i lt h = protected-stays (c .device) (c .array) bytes p w (replicate (length bytes) 0) i lt h
@@ -134,8 +137,8 @@ kept-all (e ∷ es) c l s =
 
 pub hardware-protects : HardwareProtects
 hardware-protects = record {
-  ends = λ c f es l. kept-all es c l (f .srwd);
-  each = λ c f es later l. kept-all es c (both (every wLow es) (every wLow later) (sym (every-append wLow es later) ∙ l) .0) (f .srwd);
+  ends = λ c a es l. kept-all es c l (a .srwd);
+  each = λ c a es later l. kept-all es c (both (every wLow es) (every wLow later) (sym (every-append wLow es later) ∙ l) .0) (a .srwd);
   refused = λ c bytes p w r h. let e = refused-nothing c bytes p w r h in rw (e .0, e .1);
   taken = taken-as-event;
 }

@@ -79,6 +79,7 @@ tried srwd w =
 
 -- the same attempt three times
 pub record Limits : Type 0 where
+  -- with SRWD set the theorem speaks of it
   pub armed : Armed (start true)
   -- SRWD set and W low throughout: the status write gets 18, the program 17, and all stays
   pub low : tried true false ≡ record { numbers = 0 ∷ 18 ∷ 0 ∷ 0 ∷ 17 ∷ []; bp = 1; srwd = true; byte = 0xFF }

@@ -23,6 +23,7 @@ use Rattle.pins.proofs.Carried.{ending, events-append}
 abbrev pub LowAsItEnds : Seen → List ℕ → Type 0
 LowAsItEnds x samples = (i : ℕ) → i < length samples → ends (seenFrom x (take i samples) .pins) (levelsOf (getD samples i 0)) ≡ true → levelsOf (getD samples i 0) .w ≡ false
 
+-- one sample more
 low-next : (x : Seen) (now : Levels) → every wLow (eventsOf (x .found)) ≡ true → (ends (x .pins) now ≡ true → now .w ≡ false) → every wLow (eventsOf (step x now .found)) ≡ true
 unfolding step nextFound
 low-next x now h l =
