@@ -1,5 +1,5 @@
 /* first.c - a first program: deliver the bench part, identify it, program it, wait, and read it back; then
- * program it once more without an erase, and hear that one was missing.
+ * program it once more without an erase, hear that one was missing, and lose power in mid-program.
  *
  *   rt staticlib m25p
  *   cc -O2 -Iinclude examples/first.c target/staticlib/libm25p.a -o target/first && target/first
@@ -8,12 +8,14 @@
  */
 #include <stdio.h>
 #include <stdlib.h>
+#include <string.h>
 
 #include "m25p.h"
 
 static uint8_t record[M25P_RECORD_BYTES];
 static uint8_t array[M25P_BENCH_BYTES];
 static uint8_t response[64];
+static uint8_t mask[M25P_MASK_BYTES];
 
 /* Ends the program unless the call was executed. */
 static uint64_t executed(const char *name, uint64_t answer)
@@ -56,10 +58,15 @@ int main(void)
     say("write enable", write_enable, sizeof write_enable);
     say("program", program, sizeof program);
     say("status", status, sizeof status);
-    executed("wait", m25p_wait(record, sizeof record, 3));
+    executed("wait", m25p_wait(record, sizeof record, array, sizeof array, 3));
     say("status", status, sizeof status);
     say("read", read, sizeof read);
     say("write enable", write_enable, sizeof write_enable);
     say("rewrite", rewrite, sizeof rewrite);
+
+    /* The program has cleared its bits but for bit 3 of each byte: 68 stays, where 60 was to come. */
+    memset(mask, 0x08, sizeof mask);
+    executed("loss", m25p_loss(record, sizeof record, array, sizeof array, mask, sizeof mask, 0));
+    say("read", read, sizeof read);
     return 0;
 }

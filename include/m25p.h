@@ -1,8 +1,8 @@
 /* m25p.h - the C calls of a software stand-in for M25P serial flash chips (libm25p.a).
  *
- * A chip is two buffers that you own: a packed record of 28 bytes (the settings and the mode of the
- * chip) and the memory array (its contents). Each call is lent both, changes them in place and returns
- * one 64-bit answer. Nothing is allocated, and nothing is remembered between calls.
+ * A chip is two buffers that you own: a packed record of 292 bytes (the settings, the mode and a running
+ * cycle) and the memory array (its contents). Each call is lent both, changes them in place and returns
+ * one 64-bit answer. Nothing is allocated, and between calls nothing is remembered but in these two.
  *
  * Parts
  *
@@ -19,7 +19,7 @@
  *   programs that want small buffers. Part 5 is the M25P10-A before process technology X and Y: it does
  *   what part 1 does, but 9F is not an instruction of it and answers 14.
  *
- * The packed record, 28 bytes
+ * The packed record, 292 bytes
  *
  *   byte 0       part, 0 to 5
  *   byte 1       BP (block protect), 0 to the part's highest
@@ -33,9 +33,25 @@
  *   bytes 20-23  duration of a bulk erase, likewise
  *   bytes 24-27  duration of a status write, likewise
  *
- *   Numbers of four bytes are little-endian. A record is sound if every field is as above, a busy record
- *   has its latch set exactly if more than one tick is left, and part 4 is not in deep power-down. Any
- *   other 28 bytes are answered with 6.
+ *   While busy, the cycle that is running:
+ *
+ *   byte 28      its kind: 1 page program, 2 sector erase, 3 bulk erase, 4 status write
+ *   byte 29      kind 4: the new BP, 0 to the part's highest
+ *   byte 30      kind 4: the new SRWD, 0 or 1
+ *   byte 31      zero
+ *   bytes 32-35  kinds 1 and 2: the address as it was sent, modulo the part's size
+ *   bytes 36-291 kind 1: the 256 slots of the page, FF where no data went
+ *
+ *   What a kind does not use is zero, and all of bytes 28 to 291 unless busy. Numbers of four bytes are
+ *   little-endian. A record is sound if every field is as above, a busy record has its latch set exactly
+ *   if more than one tick is left, and part 4 is not in deep power-down. Any other 292 bytes are answered
+ *   with 6.
+ *
+ * Cycles
+ *
+ *   An executed PP, SE, BE or WRSR starts a cycle. Until its end the record remembers it, and array, BP
+ *   and SRWD stay as they are. The cycle acts on the array that is lent at its end, which is one of three:
+ *   its last tick (m25p_wait), m25p_power_up, which completes it, and m25p_loss, which cuts it.
  *
  * The answer, 64 bits
  *
@@ -50,7 +66,8 @@
  *
  *   Where nothing was driven, and on every number but 0, first and count are 0. The bits missing are 0 on
  *   every number but 0, for every transaction but a page program, and in every answer of m25p_deliver,
- *   m25p_wait and m25p_power_up. m25p_pins gives the sum over its transactions.
+ *   m25p_wait, m25p_power_up and m25p_loss. m25p_pins gives the sum over its transactions. They are counted
+ *   as the program starts, on the array that is lent to that call.
  *
  *   What the bits missing are good for: a program can only make a 1 a 0. Where it wants a 1 and the array
  *   holds a 0, the 0 stays, the answer number is 0 all the same, and the page does not hold what was
@@ -76,7 +93,8 @@
 extern "C" {
 #endif
 
-#define M25P_RECORD_BYTES 28u
+#define M25P_RECORD_BYTES 292u
+#define M25P_MASK_BYTES 256u         /* the mask of a power loss: a byte for each byte of a page */
 #define M25P_MOST_SENT 65536u        /* the most bytes in one transaction */
 #define M25P_MOST_TICKS 1000000u     /* the longest duration */
 
@@ -106,20 +124,20 @@ enum m25p_part {
 #define M25P_M25P128_BYTES 16777216u
 #define M25P_M25P10A_OLDER_BYTES 131072u
 
-/* Answer numbers. On 1 to 8 and 21 to 23 the call was refused and has written nothing anywhere. On 11 to
- * 18 the chip ignored the transaction: record and array stay, the latch included, and the response is all
- * FF. */
+/* Answer numbers. On 1 to 8, 21 to 23 and 41 the call was refused and has written nothing anywhere. On 11
+ * to 18 the chip ignored the transaction: record and array stay, the latch included, and the response is
+ * all FF. */
 enum m25p_number {
     M25P_EXECUTED = 0,          /* done */
 
     M25P_UNKNOWN_PART = 1,      /* deliver: part above 5 */
-    M25P_ARRAY_LENGTH = 2,      /* deliver, transact, pins: array_len is not the part's size */
+    M25P_ARRAY_LENGTH = 2,      /* all: array_len is not the part's size */
     M25P_SENT_LENGTH = 3,       /* transact: sent_len above 65,536 */
     M25P_PULSES = 4,            /* transact: further pulses above 7 */
     M25P_RESPONSE_LENGTH = 5,   /* transact: response_len below sent_len */
     M25P_RECORD_UNSOUND = 6,    /* all but deliver: not the packing of a sound record */
     M25P_DURATION = 7,          /* deliver: a duration outside 1 to 1,000,000 */
-    M25P_RECORD_LENGTH = 8,     /* all: record_len is not 28 */
+    M25P_RECORD_LENGTH = 8,     /* all: record_len is not 292 */
 
     M25P_NO_BYTES = 11,         /* nothing was sent */
     M25P_BUSY = 12,             /* busy, and not RDSR */
@@ -132,18 +150,21 @@ enum m25p_number {
 
     M25P_SAMPLE_BITS = 21,      /* pins: a sample with any of bits 5 to 7 set */
     M25P_PINS_LENGTH = 22,      /* pins: a transaction of more than 65,536 bytes */
-    M25P_OUTPUT_LENGTH = 23     /* pins: output_len below samples_len */
+    M25P_OUTPUT_LENGTH = 23,    /* pins: output_len below samples_len */
+
+    M25P_MASK_LENGTH = 41       /* loss: mask_len is not 256 */
 };
 
 /* Each call gives the first number that applies, in this order:
- *   m25p_deliver            8, 1, 2, 7
- *   m25p_wait, m25p_power_up  8, 6
- *   m25p_transact           8, 6, 2, 3, 4, 5, then 11, 14, 12, 13, 15, 16, 17, 18
- *   m25p_pins               8, 6, 2, 21, 22, 23
+ *   m25p_deliver              8, 1, 2, 7
+ *   m25p_transact             8, 6, 2, 3, 4, 5, then 11, 14, 12, 13, 15, 16, 17, 18
+ *   m25p_wait, m25p_power_up  8, 6, 2
+ *   m25p_loss                 8, 6, 2, 41
+ *   m25p_pins                 8, 6, 2, 21, 22, 23
  */
 
 /* A part as it comes from the factory: the array all FF, BP 0, SRWD 0, latch reset, standby, with the
- * given durations in ticks. The record's 28 bytes need not hold anything before. */
+ * given durations in ticks. The record's 292 bytes need not hold anything before. */
 uint64_t m25p_deliver(uint8_t *record, size_t record_len, uint32_t part,
                       uint8_t *array, size_t array_len,
                       uint32_t program, uint32_t sector_erase,
@@ -179,32 +200,51 @@ uint64_t m25p_deliver(uint8_t *record, size_t record_len, uint32_t part,
  * and 0 in the slot's byte of the page before. An FF that was sent counts the zeros under it; a slot
  * where no data went counts nothing; of several bytes for one slot only the last counts.
  *
- * An executed WRSR, PP, SE or BE takes effect at once and makes the chip busy for its duration. Status
- * byte: bit 7 SRWD, bits 4 to 2 BP, bit 1 the latch, bit 0 set while busy. The latch falls one tick
- * before the cycle ends: with SRWD 0 and BP 0 the status is 03, in the last tick 01, and 00 afterwards.
+ * An executed WRSR, PP, SE or BE makes the chip busy for its duration and takes effect as its cycle ends;
+ * no transaction changes the array. Status byte: bit 7 SRWD, bits 4 to 2 BP, bit 1 the latch, bit 0 set
+ * while busy. The latch falls one tick before the cycle ends, SRWD and BP are the old ones up to the end:
+ * in a status write of 8C over 00 the status is 03, in the last tick 01, and 8C afterwards.
  *
  * BP protects this many of the highest sectors: 0 for BP 0, otherwise 2 to the power BP - 1, or all of
  * them where the part has fewer.
  *
  * Hardware protection: starting from a standby record with SRWD set, as long as w is 0 in every
  * transaction (in m25p_pins, as long as W is low in every sample in which Select rises), no call but
- * m25p_deliver changes BP, SRWD or a byte of a protected sector. One WRSR with W high may undo it, and so
- * may one with W low where SRWD is not set. Sectors that BP leaves free are programmed and erased as
- * ever. */
+ * m25p_deliver changes BP, SRWD or a byte of a protected sector, power losses included. One WRSR with W
+ * high may undo it, and so may one with W low where SRWD is not set, or one that was running at the start.
+ * Sectors that BP leaves free are programmed and erased as ever. */
 uint64_t m25p_transact(uint8_t *record, size_t record_len,
                        uint8_t *array, size_t array_len,
                        const uint8_t *sent, size_t sent_len,
                        uint32_t pulses, uint32_t w,
                        uint8_t *response, size_t response_len);
 
-/* Lets ticks pass. While busy: fewer ticks than are left are taken off, and with one tick left the latch
- * is reset; otherwise the cycle ends, with standby and the latch reset. In standby and deep power-down
- * nothing changes. */
-uint64_t m25p_wait(uint8_t *record, size_t record_len, uint32_t ticks);
+/* Lets ticks pass. While busy: fewer ticks than are left are taken off, with one tick left the latch is
+ * reset, and the array is left alone; otherwise the cycle ends and takes effect on the array that is lent
+ * here, or on BP and SRWD, with standby and the latch reset, and ticks beyond its last are lost. In standby
+ * and deep power-down nothing changes. */
+uint64_t m25p_wait(uint8_t *record, size_t record_len,
+                   uint8_t *array, size_t array_len, uint32_t ticks);
 
-/* Power off and on: standby, latch reset; BP, SRWD, durations and array are kept, and a running cycle
- * counts as finished. */
-uint64_t m25p_power_up(uint8_t *record, size_t record_len);
+/* Power off and on: standby, latch reset. A running cycle is completed, on the array that is lent here;
+ * else BP, SRWD and array are kept, and the durations always. */
+uint64_t m25p_power_up(uint8_t *record, size_t record_len,
+                       uint8_t *array, size_t array_len);
+
+/* Power is lost and comes back: standby, latch reset. A running cycle is cut, at whichever tick:
+ *
+ *   page program  each byte of the page becomes itself AND (its slot OR its mask byte): where the mask has
+ *                 a 1, the bit was not reached; with a mask of 00 the program is complete
+ *   erases        each byte of the sector, or of the array, becomes itself OR its mask byte: where the mask
+ *                 has a 0, the bit was not reached; with a mask of FF the erase is complete
+ *   status write  complete for yes, absent for no: yes is no for 0, yes for anything else
+ *
+ * A byte's mask byte is mask[i % 256] for byte i of the array. The array is the one that is lent here. yes
+ * does not matter for programs and erases, nor the mask for a status write; outside a cycle neither does,
+ * and all else is kept. mask_len is looked at even then. */
+uint64_t m25p_loss(uint8_t *record, size_t record_len,
+                   uint8_t *array, size_t array_len,
+                   const uint8_t *mask, size_t mask_len, uint32_t yes);
 
 /* Raw pins: what a probe saw, one byte for each sample (M25P_PIN_SELECT and so on), is found to be
  * transactions, and these are carried out in order, each as by m25p_transact. output: byte i of its first
@@ -232,9 +272,9 @@ uint64_t m25p_power_up(uint8_t *record, size_t record_len);
  *                 it is thrown away and has no effect; a hold whose start still waits does not count.
  *
  * A transaction that is unfinished at the end of the run has no effect either. No ticks pass within a
- * run: a chip that became busy stays so until m25p_wait. A transaction that the chip ignores (11 to 18)
- * does not refuse the run, and its number is not told. An answer number of 0 says that the run was
- * carried out; first and count are always 0. The bits missing are the sum over the transactions carried
+ * run: a chip that became busy stays so, and no run changes the array. A transaction that the chip ignores
+ * (11 to 18) does not refuse the run, and its number is not told. An answer number of 0 says that the run
+ * was carried out; first and count are always 0. The bits missing are the sum over the transactions carried
  * out: at most 2,048, as a chip that was programmed is busy for the rest of the run. A refused run has
  * none.
  *

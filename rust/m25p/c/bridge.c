@@ -79,11 +79,13 @@ static uint64_t call(const struct request *r)
     case 1:
         return m25p_transact(S(0), S(1), S(2), N(0), N(1), S(3));
     case 2:
-        return m25p_wait(S(0), N(0));
+        return m25p_wait(S(0), S(1), N(0));
     case 3:
-        return m25p_power_up(S(0));
+        return m25p_power_up(S(0), S(1));
     case 4:
         return m25p_pins(S(0), S(1), S(2), S(3));
+    case 5:
+        return m25p_loss(S(0), S(1), S(2), N(0));
     default:
         fprintf(stderr, "bridge: there is no call %u\n", (unsigned)r->call);
         exit(1);

@@ -49,11 +49,13 @@ pub enum Answer {
     PinsLength = 22,
     /// Raw pins: the output is shorter than the samples.
     OutputLength = 23,
+    /// Power loss: the mask is not [`MASK_BYTES`](crate::MASK_BYTES) long.
+    MaskLength = 41,
 }
 
 impl Answer {
     /// All answers, by number.
-    pub const ALL: [Answer; 20] = [
+    pub const ALL: [Answer; 21] = [
         Answer::Executed,
         Answer::UnknownPart,
         Answer::ArrayLength,
@@ -74,6 +76,7 @@ impl Answer {
         Answer::SampleBits,
         Answer::PinsLength,
         Answer::OutputLength,
+        Answer::MaskLength,
     ];
 
     /// The number in the C calls.
@@ -121,6 +124,7 @@ impl Answer {
             Answer::SampleBits => "a sample has one of the bits 5 to 7 set",
             Answer::PinsLength => "a transaction has more than 65,536 bytes",
             Answer::OutputLength => "the output is shorter than the samples",
+            Answer::MaskLength => "the mask is not 256 bytes long",
         }
     }
 }

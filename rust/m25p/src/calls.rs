@@ -14,6 +14,7 @@ pub fn deliver(record: &mut [u8], part: u32, array: &mut [u8], durations: Durati
 /// One transaction: `sent` is shifted in, then come `pulses` further clock pulses, and W is low for 0 as
 /// Chip Select rises, else high. Byte i of the response is what the chip drove during byte i, FF where it
 /// drove nothing; bytes behind what is sent stay. A page program tells the [bits missing](Reply::missing).
+/// The array is read, and never changed: a cycle that starts acts on the array that is lent at its end.
 /// Answers 8, 6, 2, 3, 4, 5, then those of the chip.
 pub fn transact(
     record: &mut [u8],
@@ -26,14 +27,21 @@ pub fn transact(
     Reply::new(library::transact(record, array, sent, pulses, w, response))
 }
 
-/// Lets ticks pass. Answers 8, 6.
-pub fn wait(record: &mut [u8], ticks: u32) -> Reply {
-    Reply::new(library::wait(record, ticks))
+/// Lets ticks pass; with a cycle's last tick array or settings change. Answers 8, 6, 2.
+pub fn wait(record: &mut [u8], array: &mut [u8], ticks: u32) -> Reply {
+    Reply::new(library::wait(record, array, ticks))
 }
 
-/// Power off and on. Answers 8, 6.
-pub fn power_up(record: &mut [u8]) -> Reply {
-    Reply::new(library::power_up(record))
+/// Power off and on; a running cycle is completed. Answers 8, 6, 2.
+pub fn power_up(record: &mut [u8], array: &mut [u8]) -> Reply {
+    Reply::new(library::power_up(record, array))
+}
+
+/// Power is lost and comes back; a running cycle is cut. Of a program or an erase the mask says what was not
+/// reached, one byte of it for each byte of a page; a status write is complete unless `yes` is 0. Answers 8,
+/// 6, 2, 41.
+pub fn loss(record: &mut [u8], array: &mut [u8], mask: &[u8], yes: u32) -> Reply {
+    Reply::new(library::loss(record, array, mask, yes))
 }
 
 /// A run of raw pins, one byte for each sample (see [`pins`](crate::pins)): the transactions in it are

@@ -3,7 +3,7 @@
 use std::ops::Range;
 
 use crate::calls;
-use crate::{Answer, Buffer, Durations, Part, Reply, RECORD_BYTES};
+use crate::{Answer, Buffer, Durations, Part, Reply, MASK_BYTES, RECORD_BYTES};
 
 /// A chip that owns its record and its array.
 ///
@@ -83,16 +83,29 @@ impl Chip {
         reply.answer().executed().map(|()| Run { output, missing: reply.missing() })
     }
 
-    /// Lets ticks pass; a cycle with no more ticks left ends. In its last tick the latch is reset already.
+    /// Lets ticks pass; a cycle with no more ticks left ends, and only then array or settings change. In its
+    /// last tick the latch is reset already.
     pub fn wait(&mut self, ticks: u32) {
-        let reply = calls::wait(&mut self.record, ticks);
-        assert_eq!(reply.answer(), Answer::Executed, "a chip's record is sound");
+        executed(calls::wait(&mut self.record, &mut self.array, ticks));
     }
 
-    /// Power off and on: standby, with the latch reset. The settings and the array are kept.
+    /// Power off and on: standby, with the latch reset. A running cycle is completed; else the settings and
+    /// the array are kept.
     pub fn power_up(&mut self) {
-        let reply = calls::power_up(&mut self.record);
-        assert_eq!(reply.answer(), Answer::Executed, "a chip's record is sound");
+        executed(calls::power_up(&mut self.record, &mut self.array));
+    }
+
+    /// Power is lost and comes back: standby, with the latch reset. A running cycle is cut, at whichever tick:
+    ///
+    /// - a program leaves in each byte of the page what was there and (its slot or the mask): a bit that is 1
+    ///   in the mask was not reached;
+    /// - an erase leaves in each byte of its sector, or of the array, what was there or the mask: a bit that is
+    ///   0 in the mask was not reached;
+    /// - a status write is complete on yes and absent on no.
+    ///
+    /// The mask's byte is the one at the byte's place in its page.
+    pub fn loss(&mut self, mask: &[u8; MASK_BYTES], yes: bool) {
+        executed(calls::loss(&mut self.record, &mut self.array, mask, u32::from(yes)));
     }
 
     /// The part.
@@ -105,7 +118,7 @@ impl Chip {
         &self.record
     }
 
-    /// The contents.
+    /// The contents; a cycle that is still running has changed nothing of them.
     pub fn array(&self) -> &[u8] {
         &self.array
     }
@@ -114,4 +127,9 @@ impl Chip {
     pub fn array_mut(&mut self) -> &mut [u8] {
         &mut self.array
     }
+}
+
+/// A chip's own buffers are never refused.
+fn executed(reply: Reply) {
+    assert_eq!(reply.answer(), Answer::Executed, "a chip's record is sound, and its array whole");
 }

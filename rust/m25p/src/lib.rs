@@ -2,11 +2,12 @@
 //!
 //! A [`Chip`] is one of the [parts](Part) with its contents. It takes SPI transactions, each one period of
 //! Chip Select low, or the raw samples of its pins, and does what the data sheet says and nothing else. Time
-//! is counted in ticks and passes only when it is told to ([`Chip::wait`]). What is refused or ignored is an
-//! [`Answer`], which is an error, too.
+//! is counted in ticks and passes only when it is told to ([`Chip::wait`]). A program, an erase or a status
+//! write is a cycle: it changes array or settings with its last tick, and where power is lost before
+//! ([`Chip::loss`]), it is cut. What is refused or ignored is an [`Answer`], which is an error, too.
 //!
 //! ```
-//! use m25p::{Answer, Chip, Durations, Part};
+//! use m25p::{Answer, Chip, Durations, Part, MASK_BYTES};
 //!
 //! fn main() -> Result<(), Answer> {
 //!     let mut chip = Chip::deliver(Part::M25p40, Durations::default())?;
@@ -20,6 +21,7 @@
 //!
 //!     chip.transact(&[0x06], 0, true).executed()?;
 //!     chip.transact(&program, 0, true).executed()?;
+//!     assert_eq!(chip.array()[0x10], 0xFF);
 //!     chip.wait(Durations::default().program);
 //!     assert_eq!(chip.array()[0x10], 0x5A);
 //!
@@ -27,6 +29,13 @@
 //!     chip.transact(&[0x06], 0, true).executed()?;
 //!     let rewrite = chip.transact(&[0x02, 0x00, 0x00, 0x10, 0xFF], 0, true).executed()?;
 //!     assert_eq!((rewrite.missing, chip.array()[0x10]), (4, 0x5A));
+//!     chip.wait(Durations::default().program);
+//!
+//!     // Power is lost in mid-program: of 5A the bits 3 and 1 were to go, and bit 1 was not reached.
+//!     chip.transact(&[0x06], 0, true).executed()?;
+//!     chip.transact(&[0x02, 0x00, 0x00, 0x10, 0x50], 0, true).executed()?;
+//!     chip.loss(&[0x02; MASK_BYTES], false);
+//!     assert_eq!(chip.array()[0x10], 0x52);
 //!     Ok(())
 //! }
 //! ```
@@ -67,4 +76,7 @@ pub use durations::Durations;
 pub use part::{Part, UnknownPart};
 
 /// The length of a packed record.
-pub const RECORD_BYTES: usize = 28;
+pub const RECORD_BYTES: usize = 292;
+
+/// The length of a power loss's mask: a byte for each byte of a page.
+pub const MASK_BYTES: usize = 256;

@@ -1,9 +1,9 @@
-//! The chip that owns its buffers: refused deliveries, a short life of an M25P40 on libm25p.a, missing erases, and
-//! what parts and answers are called.
+//! The chip that owns its buffers: refused deliveries, a short life of an M25P40 on libm25p.a, missing erases, power
+//! losses, and what parts and answers are called.
 
 use std::error::Error;
 
-use m25p::{calls, pins, Answer, Buffer, Chip, Durations, Part, Run, RECORD_BYTES};
+use m25p::{calls, pins, Answer, Buffer, Chip, Durations, Part, Run, MASK_BYTES, RECORD_BYTES};
 
 fn executed(chip: &mut Chip, sent: &[u8]) -> Vec<u8> {
     let response = chip.transact(sent, 0, true);
@@ -28,18 +28,89 @@ fn program_erase_and_power() {
     executed(&mut chip, &[0x02, 0x07, 0xFF, 0xFF, 0x12, 0x34]);
     let busy = chip.transact(&[0x06], 0, true);
     assert_eq!((busy.answer, &busy.line[..]), (Answer::Busy, &[0xFF][..]));
-    chip.wait(3);
+    for left in [3, 2, 1] {
+        assert_eq!((chip.array()[0x7_FFFF], chip.array()[0x7_FF00]), (0xFF, 0xFF), "{left} left");
+        chip.wait(1);
+    }
     assert_eq!((chip.array()[0x7_FFFF], chip.array()[0x7_FF00]), (0x12, 0x34));
     chip.array_mut()[0] = 0x56;
     let read = chip.transact(&[0x03, 0x07, 0xFF, 0xFF, 0, 0], 5, false).executed().unwrap();
     assert_eq!((read.driven(), &read.line[..4]), (&[0x12, 0x56][..], &[0xFF; 4][..]));
     executed(&mut chip, &[0x06]);
     executed(&mut chip, &[0xC7]);
+    assert_eq!(chip.array()[0], 0x56);
     chip.power_up();
     assert_eq!(executed(&mut chip, &[0x05, 0]), [0xFF, 0x00]);
     assert!(chip.array().iter().all(|byte| *byte == 0xFF));
     assert_eq!(chip.record()[..8], [2, 0, 0, 0, 0, 0, 0, 0]);
     assert_eq!(chip.part(), Part::M25p40);
+}
+
+/// A chip of this part, all 5A, in the cycle that the bytes start.
+fn in_cycle(part: Part, sent: &[u8]) -> Chip {
+    let mut chip = Chip::deliver(part, Durations::default()).unwrap();
+    chip.array_mut().fill(0x5A);
+    executed(&mut chip, &[0x06]);
+    executed(&mut chip, sent);
+    chip
+}
+
+/// The settings show as the cycle ends, not before.
+#[test]
+fn status_write() {
+    let mut chip = in_cycle(Part::Bench, &[0x01, 0xFF]);
+    for status in [0x03, 0x01, 0x8C] {
+        assert_eq!(executed(&mut chip, &[0x05, 0]), [0xFF, status]);
+        chip.wait(1);
+    }
+}
+
+/// A running cycle as the packed record has it: kind, new BP and SRWD, address, slots.
+#[test]
+fn packed_cycles() {
+    let packed = |sent: &[u8]| in_cycle(Part::Bench, sent).record()[28..].to_vec();
+    let mut program = vec![0xFF; 264];
+    program[..8].copy_from_slice(&[1, 0, 0, 0, 0xFF, 0x0E, 0, 0]);
+    (program[8 + 255], program[8]) = (0x12, 0x34);
+    assert_eq!(packed(&[0x02, 0xF0, 0xFE, 0xFF, 0x12, 0x34]), program);
+    let rest = |head: &[u8]| [head, &vec![0; 264 - head.len()]].concat();
+    assert_eq!(packed(&[0xD8, 0xF0, 0xFE, 0xFF]), rest(&[2, 0, 0, 0, 0xFF, 0x0E]));
+    assert_eq!(packed(&[0xC7]), rest(&[3]));
+    assert_eq!(packed(&[0x01, 0xFF]), rest(&[4, 3, 1]));
+    assert_eq!(packed(&[0x06]), rest(&[]));
+}
+
+/// Power lost in each kind of cycle: what the array holds then, in the mask's first place and behind it.
+#[test]
+fn power_losses() {
+    let mut mask = [0x00; MASK_BYTES];
+    mask[1] = 0x0F;
+    let left = |sent: &[u8], places: &[usize]| {
+        let mut chip = in_cycle(Part::M25p10a, sent);
+        chip.wait(1);
+        chip.loss(&mask, true);
+        let lost = chip.clone();
+        chip.loss(&[0xFF; MASK_BYTES], true);
+        assert_eq!(chip, lost, "a second loss changes nothing more");
+        assert_eq!(executed(&mut chip, &[0x05, 0]), [0xFF, 0x00]);
+        places.iter().map(|at| chip.array()[*at]).collect::<Vec<u8>>()
+    };
+    let program = [0x02, 0x01, 0x02, 0x00, 0x00, 0x00];
+    assert_eq!(left(&program, &[0x1_0200, 0x1_0201, 0x1_0202, 0x201]), [0x00, 0x0A, 0x5A, 0x5A]);
+    let erased = [0x5A, 0x5F, 0x5F, 0x5A, 0x5A];
+    let places = [0x8000, 0x8001, 0xFF01, 0x1, 0x1_0001];
+    assert_eq!(left(&[0xD8, 0x00, 0x80, 0x00], &places), erased);
+    assert_eq!(left(&[0xC7], &[0x0, 0x1, 0x1_FF01]), [0x5A, 0x5F, 0x5F]);
+}
+
+#[test]
+fn power_loss_in_a_status_write() {
+    for (yes, status) in [(true, 0x8C), (false, 0x00)] {
+        let mut chip = in_cycle(Part::Bench, &[0x01, 0xFF]);
+        chip.loss(&[0x00; MASK_BYTES], yes);
+        assert_eq!(executed(&mut chip, &[0x05, 0]), [0xFF, status]);
+        assert!(chip.array().iter().all(|byte| *byte == 0x5A));
+    }
 }
 
 /// Write enable and a program of these bytes in page 1, which is over afterwards: the bits missing.
@@ -117,9 +188,16 @@ fn calls_on_slices() {
     assert_eq!((reply.answer(), reply.first(), reply.count()), (Answer::Executed, 1, 3));
     assert_eq!(reply.missing(), 0);
     assert_eq!(response, [0xFF, 0x00, 0x00, 0x0C, 9, 9]);
-    assert_eq!(calls::wait(&mut record[1..], 1).answer(), Answer::RecordLength);
+    let (array, mask) = (&mut array[1..], [0; MASK_BYTES]);
+    assert_eq!(calls::wait(&mut record[1..], array, 1).answer(), Answer::RecordLength);
+    assert_eq!(calls::wait(&mut record, &mut array[1..], 0).answer(), Answer::ArrayLength);
+    assert_eq!(calls::power_up(&mut record, &mut array[1..]).answer(), Answer::ArrayLength);
+    assert_eq!(calls::loss(&mut record, &mut array[1..], &mask, 0).answer(), Answer::ArrayLength);
+    assert_eq!(calls::loss(&mut record, array, &mask[1..], 0).answer(), Answer::MaskLength);
+    assert_eq!(calls::loss(&mut record, array, &mask, 0).bits(), 0);
     record[5] = 1;
-    assert_eq!(calls::power_up(&mut record).answer(), Answer::RecordUnsound);
+    assert_eq!(calls::power_up(&mut record, array).answer(), Answer::RecordUnsound);
+    assert_eq!(calls::loss(&mut record, array, &[], 0).answer(), Answer::RecordUnsound);
 }
 
 #[test]

@@ -19,6 +19,7 @@ const TRANSACT: u32 = 1;
 const WAIT: u32 = 2;
 const POWER_UP: u32 = 3;
 const PINS: u32 = 4;
+const LOSS: u32 = 5;
 
 pub fn deliver(record: &mut [u8], part: u32, array: &mut [u8], durations: [u32; 4]) -> u64 {
     let [program, sector_erase, bulk_erase, write_status] = durations;
@@ -39,12 +40,17 @@ pub fn transact(
     call(TRANSACT, &[pulses, w], &mut [record, array, sent, response])
 }
 
-pub fn wait(record: &mut [u8], ticks: u32) -> u64 {
-    call(WAIT, &[ticks], &mut [Lent::Changed(record)])
+pub fn wait(record: &mut [u8], array: &mut [u8], ticks: u32) -> u64 {
+    call(WAIT, &[ticks], &mut [Lent::Changed(record), Lent::Changed(array)])
 }
 
-pub fn power_up(record: &mut [u8]) -> u64 {
-    call(POWER_UP, &[], &mut [Lent::Changed(record)])
+pub fn power_up(record: &mut [u8], array: &mut [u8]) -> u64 {
+    call(POWER_UP, &[], &mut [Lent::Changed(record), Lent::Changed(array)])
+}
+
+pub fn loss(record: &mut [u8], array: &mut [u8], mask: &[u8], yes: u32) -> u64 {
+    let (record, array) = (Lent::Changed(record), Lent::Changed(array));
+    call(LOSS, &[yes], &mut [record, array, Lent::Kept(mask)])
 }
 
 pub fn pins(record: &mut [u8], array: &mut [u8], samples: &[u8], output: &mut [u8]) -> u64 {

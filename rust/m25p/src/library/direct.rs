@@ -24,8 +24,23 @@ extern "C" {
         response: *mut u8,
         response_len: usize,
     ) -> u64;
-    fn m25p_wait(record: *mut u8, record_len: usize, ticks: u32) -> u64;
-    fn m25p_power_up(record: *mut u8, record_len: usize) -> u64;
+    fn m25p_wait(
+        record: *mut u8,
+        record_len: usize,
+        array: *mut u8,
+        array_len: usize,
+        ticks: u32,
+    ) -> u64;
+    fn m25p_power_up(record: *mut u8, record_len: usize, array: *mut u8, array_len: usize) -> u64;
+    fn m25p_loss(
+        record: *mut u8,
+        record_len: usize,
+        array: *mut u8,
+        array_len: usize,
+        mask: *const u8,
+        mask_len: usize,
+        yes: u32,
+    ) -> u64;
     fn m25p_pins(
         record: *mut u8,
         record_len: usize,
@@ -85,12 +100,26 @@ pub fn transact(
     }
 }
 
-pub fn wait(record: &mut [u8], ticks: u32) -> u64 {
-    unsafe { m25p_wait(record.as_mut_ptr(), record.len(), ticks) }
+pub fn wait(record: &mut [u8], array: &mut [u8], ticks: u32) -> u64 {
+    unsafe { m25p_wait(record.as_mut_ptr(), record.len(), array.as_mut_ptr(), array.len(), ticks) }
 }
 
-pub fn power_up(record: &mut [u8]) -> u64 {
-    unsafe { m25p_power_up(record.as_mut_ptr(), record.len()) }
+pub fn power_up(record: &mut [u8], array: &mut [u8]) -> u64 {
+    unsafe { m25p_power_up(record.as_mut_ptr(), record.len(), array.as_mut_ptr(), array.len()) }
+}
+
+pub fn loss(record: &mut [u8], array: &mut [u8], mask: &[u8], yes: u32) -> u64 {
+    unsafe {
+        m25p_loss(
+            record.as_mut_ptr(),
+            record.len(),
+            array.as_mut_ptr(),
+            array.len(),
+            mask.as_ptr(),
+            mask.len(),
+            yes,
+        )
+    }
 }
 
 pub fn pins(record: &mut [u8], array: &mut [u8], samples: &[u8], output: &mut [u8]) -> u64 {

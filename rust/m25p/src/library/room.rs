@@ -70,7 +70,9 @@ impl Room {
             assert!(whole, "a call has written before or behind a slice");
             let copy = &self.0[at..at + length];
             match slice {
-                Lent::Kept(bytes) => assert!(copy == *bytes, "a call has written to what was sent"),
+                Lent::Kept(bytes) => {
+                    assert!(copy == *bytes, "a call has written to what it may only read")
+                }
                 Lent::Changed(bytes) => bytes.copy_from_slice(copy),
             }
         }
