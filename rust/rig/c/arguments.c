@@ -37,12 +37,17 @@ static uint64_t transact(uint8_t *const p[], const uint64_t n[])
 
 static uint64_t wait(uint8_t *const p[], const uint64_t n[])
 {
-    return m25p_wait(p[0], n[0], n[1]);
+    return m25p_wait(p[0], n[0], p[1], n[1], n[2]);
 }
 
 static uint64_t power_up(uint8_t *const p[], const uint64_t n[])
 {
-    return m25p_power_up(p[0], n[0]);
+    return m25p_power_up(p[0], n[0], p[1], n[1]);
+}
+
+static uint64_t loss(uint8_t *const p[], const uint64_t n[])
+{
+    return m25p_loss(p[0], n[0], p[1], n[1], p[2], n[2], n[3]);
 }
 
 static uint64_t pins(uint8_t *const p[], const uint64_t n[])
@@ -57,17 +62,41 @@ static void set(struct call *call, int numbers, const uint64_t *number)
         call->pointer[i] = room[i];
 }
 
-/* A record of the M25P10-A with SRWD set, the latch set, in standby or busy with 20 ticks left. */
+/* A record of the M25P10-A with SRWD set, the latch set, in standby or with 20 ticks left of a program in the
+ * second page. */
 static void record(uint8_t *at, int busy)
 {
-    const uint8_t bytes[M25P_RECORD_BYTES] = {
+    uint8_t bytes[M25P_RECORD_BYTES] = {
         1, 0, 1, 1, (uint8_t)busy, 0, 0, 0, busy ? 20 : 0, 0, 0, 0, 11, 0, 0, 0, 12, 0, 0, 0, 13, 0, 0, 0, 14};
+    if (busy) {
+        bytes[28] = 1;
+        bytes[33] = 1;
+        memset(bytes + 36, 0xF0, 256);
+    }
     memcpy(at, bytes, sizeof bytes);
+}
+
+/* Whether every byte of the second page is this one, and those around it are as they were. */
+static int second_page(uint8_t byte)
+{
+    for (int i = 0; i < 256; i++)
+        if (room[1][256 + i] != byte)
+            return 0;
+    return room[1][255] == 0x5A && room[1][512] == 0x5A;
+}
+
+/* Whether the record is in standby with the latch reset, and remembers no cycle. */
+static int rested(void)
+{
+    for (int i = 28; i < 292; i++)
+        if (room[0][i] != 0)
+            return 0;
+    return room[0][3] == 0 && room[0][4] == 0 && room[0][8] == 0;
 }
 
 static void prepare_deliver(struct call *call)
 {
-    set(call, 7, (const uint64_t[]){28, 1, M25P_M25P10A_BYTES, 101, 102, 103, 104});
+    set(call, 7, (const uint64_t[]){292, 1, M25P_M25P10A_BYTES, 101, 102, 103, 104});
 }
 
 /* Part, durations and array are where the header has them. */
@@ -84,38 +113,51 @@ static int right_deliver(const struct call *call)
 /* A status write that W low would freeze and a further pulse would spoil. */
 static void prepare_transact(struct call *call)
 {
-    set(call, 6, (const uint64_t[]){28, M25P_M25P10A_BYTES, 2, 0, 1, 5});
+    set(call, 6, (const uint64_t[]){292, M25P_M25P10A_BYTES, 2, 0, 1, 5});
     record(room[0], 0);
     memcpy(room[2], (const uint8_t[]){0x01, 0x04}, 2);
 }
 
-/* BP is 1 and SRWD 0, the record busy for a status write, and the response two bytes FF. */
+/* The record is busy for a status write with BP 1 and SRWD 0 to come, and the response two bytes FF. */
 static int right_transact(const struct call *call)
 {
-    return call->answer == 0 && room[0][1] == 1 && room[0][2] == 0 && room[0][4] == 1 && room[0][8] == 14
+    return call->answer == 0 && room[0][1] == 0 && room[0][2] == 1 && room[0][4] == 1 && room[0][8] == 14
+        && room[0][28] == 4 && room[0][29] == 1 && room[0][30] == 0
         && room[3][0] == 0xFF && room[3][1] == 0xFF && room[3][2] == 0x5C && room[1][0] == 0x5A;
 }
 
 static void prepare_wait(struct call *call)
 {
-    set(call, 2, (const uint64_t[]){28, 7});
+    set(call, 3, (const uint64_t[]){292, M25P_M25P10A_BYTES, 20});
     record(room[0], 1);
 }
 
 static int right_wait(const struct call *call)
 {
-    return call->answer == 0 && room[0][4] == 1 && room[0][8] == 13;
+    return call->answer == 0 && rested() && second_page(0x5A & 0xF0);
 }
 
 static void prepare_power_up(struct call *call)
 {
-    set(call, 1, (const uint64_t[]){28});
+    set(call, 2, (const uint64_t[]){292, M25P_M25P10A_BYTES});
     record(room[0], 1);
 }
 
 static int right_power_up(const struct call *call)
 {
-    return call->answer == 0 && room[0][3] == 0 && room[0][4] == 0 && room[0][8] == 0;
+    return call->answer == 0 && rested() && second_page(0x5A & 0xF0);
+}
+
+/* The mask is all 5B, as its room is filled. */
+static void prepare_loss(struct call *call)
+{
+    set(call, 4, (const uint64_t[]){292, M25P_M25P10A_BYTES, 256, 1});
+    record(room[0], 1);
+}
+
+static int right_loss(const struct call *call)
+{
+    return call->answer == 0 && rested() && second_page(0x5A & (0xF0 | 0x5B));
 }
 
 /* A transaction of five bytes from this sample on, then Select high: 40 clock pulses of two samples, with
@@ -140,7 +182,7 @@ static void prepare_pins(struct call *call)
     const uint8_t read[5] = {0x03}, program[5] = {0x02, 0, 0, 0, 0xFF};
     size_t at = clocked(clocked(clocked(0, read), program), read);
     record(room[0], 0);
-    set(call, 4, (const uint64_t[]){28, M25P_M25P10A_BYTES, at, at + 3});
+    set(call, 4, (const uint64_t[]){292, M25P_M25P10A_BYTES, at, at + 3});
 }
 
 /* The byte is 5A, its bits show from the fall behind the 32nd rise on. FF over it misses four bits, and it
@@ -155,7 +197,7 @@ static int right_pins(const struct call *call)
     for (size_t i = CLOCKED; i < 3 * CLOCKED; i++)
         if (output[i] != M25P_NOT_DRIVEN)
             return 0;
-    if (m25p_missing(call->answer) != 4 || call->answer << 16 != 0 || room[1][0] != 0x5A || room[0][4] != 1)
+    if (m25p_missing(call->answer) != 4 || call->answer << 16 != 0 || room[1][0] != 0x5A || room[0][28] != 1)
         return 0;
     return n == 3 * CLOCKED && output[64] == M25P_NOT_DRIVEN && output[n] == 0x5C;
 }
@@ -214,7 +256,8 @@ static int try_all(struct call *call)
 int main(void)
 {
     static struct call calls[] = {
-        CALL(deliver, 2, 7), CALL(transact, 4, 6), CALL(wait, 1, 2), CALL(power_up, 1, 1), CALL(pins, 4, 4),
+        CALL(deliver, 2, 7), CALL(transact, 4, 6), CALL(wait, 2, 3),
+        CALL(power_up, 2, 2), CALL(loss, 3, 4), CALL(pins, 4, 4),
     };
     int fine = 1;
     for (size_t i = 0; i < sizeof calls / sizeof *calls; i++)

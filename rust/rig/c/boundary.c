@@ -1,7 +1,7 @@
 /* boundary.c - the C calls at their limits: empty slices with and without an address, lengths beyond 32
- * bits, full 32-bit numbers, rewrites without an erase, every part. Prints one line for each call: its name,
- * answer number, first, count and bits missing; of each part one line: the answers of delivery, RDID and
- * RES, and what the two drive. */
+ * bits, full 32-bit numbers, rewrites without an erase, power losses, every part. Prints one line for each
+ * call: its name, answer number, first, count and bits missing; of each part one line: the answers of
+ * delivery, RDID and RES, and what the two drive. */
 #define _GNU_SOURCE
 #include <stdio.h>
 #include <string.h>
@@ -16,6 +16,7 @@ static uint8_t record[M25P_RECORD_BYTES];
 static uint8_t array[M25P_BENCH_BYTES];
 static uint8_t sent[M25P_MOST_SENT + 1];
 static uint8_t response[M25P_MOST_SENT + 1];
+static uint8_t mask[M25P_MASK_BYTES + 1];
 static const uint8_t samples[3] = {M25P_PINS_AT_REST, M25P_PIN_W | M25P_PIN_HOLD, M25P_PINS_AT_REST};
 static uint8_t *huge;
 
@@ -34,6 +35,11 @@ static uint64_t send(const uint8_t *bytes, size_t n, uint32_t pulses, uint32_t w
     return m25p_transact(record, sizeof record, array, sizeof array, bytes, n, pulses, w, q, length);
 }
 
+static uint64_t lose(const uint8_t *bytes, size_t n, uint32_t yes)
+{
+    return m25p_loss(record, sizeof record, array, sizeof array, bytes, n, yes);
+}
+
 static uint64_t probe(const uint8_t *bytes, size_t n, uint8_t *output, size_t length)
 {
     return m25p_pins(record, sizeof record, array, sizeof array, bytes, n, output, length);
@@ -47,8 +53,14 @@ static void empty(const char *kind, uint8_t *none)
     show("deliver record", m25p_deliver(none, 0, 0, array, sizeof array, 3, 5, 9, 2));
     show("deliver array", m25p_deliver(record, sizeof record, 0, none, 0, 3, 5, 9, 2));
     show("deliver both", m25p_deliver(none, 0, 0, none, 0, 3, 5, 9, 2));
-    show("wait record", m25p_wait(none, 0, 1));
-    show("power-up record", m25p_power_up(none, 0));
+    show("wait record", m25p_wait(none, 0, array, sizeof array, 1));
+    show("wait array", m25p_wait(record, sizeof record, none, 0, 1));
+    show("power-up record", m25p_power_up(none, 0, array, sizeof array));
+    show("power-up array", m25p_power_up(record, sizeof record, none, 0));
+    show("loss record", m25p_loss(none, 0, array, sizeof array, mask, M25P_MASK_BYTES, 1));
+    show("loss array", m25p_loss(record, sizeof record, none, 0, mask, M25P_MASK_BYTES, 1));
+    show("loss mask", lose(none, 0, 1));
+    show("loss all", m25p_loss(none, 0, none, 0, none, 0, 1));
     show("transact record", m25p_transact(none, 0, array, sizeof array, sent, 1, 0, 1, response, 1));
     show("transact array", m25p_transact(record, sizeof record, none, 0, sent, 1, 0, 1, response, 1));
     show("transact sent", send(none, 0, 0, 1, response, sizeof response));
@@ -67,22 +79,27 @@ static void empty(const char *kind, uint8_t *none)
  * only then. */
 static void beyond_32_bits(void)
 {
-    size_t over = (size_t)1 << 32;
+    size_t over = (size_t)1 << 32, longer = over + M25P_RECORD_BYTES;
     printf("lengths beyond 32 bits\n");
     fresh();
     memcpy(huge, record, sizeof record);
-    show("deliver record", m25p_deliver(huge, over + 28, 0, array, sizeof array, 3, 5, 9, 2));
+    show("deliver record", m25p_deliver(huge, longer, 0, array, sizeof array, 3, 5, 9, 2));
     show("deliver array", m25p_deliver(record, sizeof record, 0, huge, over + 4096, 3, 5, 9, 2));
-    show("wait record", m25p_wait(huge, over + 28, 1));
-    show("power-up record", m25p_power_up(huge, over + 28));
-    show("transact record", m25p_transact(huge, over + 28, array, sizeof array, sent, 1, 0, 1, response, 1));
+    show("wait record", m25p_wait(huge, longer, array, sizeof array, 1));
+    show("wait array", m25p_wait(record, sizeof record, huge, over + 4096, 1));
+    show("power-up record", m25p_power_up(huge, longer, array, sizeof array));
+    show("power-up array", m25p_power_up(record, sizeof record, huge, over + 4096));
+    show("loss record", m25p_loss(huge, longer, array, sizeof array, mask, M25P_MASK_BYTES, 1));
+    show("loss array", m25p_loss(record, sizeof record, huge, over + 4096, mask, M25P_MASK_BYTES, 1));
+    show("loss mask", lose(huge, over + M25P_MASK_BYTES, 1));
+    show("transact record", m25p_transact(huge, longer, array, sizeof array, sent, 1, 0, 1, response, 1));
     show("transact array", m25p_transact(record, sizeof record, huge, over + 4096, sent, 1, 0, 1, response, 1));
     show("transact sent", send(huge, over + 1, 0, 1, response, sizeof response));
     sent[0] = 0x9F;
     show("transact response", send(sent, 4, 0, 1, huge, over));
     printf("%02X %02X %02X %02X\n", huge[0], huge[1], huge[2], huge[3]);
     memcpy(huge, record, sizeof record);
-    show("pins record", m25p_pins(huge, over + 28, array, sizeof array, samples, 3, response, 3));
+    show("pins record", m25p_pins(huge, longer, array, sizeof array, samples, 3, response, 3));
     show("pins array", m25p_pins(record, sizeof record, huge, over + 4096, samples, 3, response, 3));
     show("pins output", probe(samples, 3, huge, over));
     printf("%u %u %u\n", huge[0], huge[1], huge[2]);
@@ -104,7 +121,7 @@ static void full_numbers(void)
     record[2] = record[3] = 1;
     show("W 0", send(settings, 2, 0, 0, response, 2));
     show("W 256", send(settings, 2, 0, 256, response, 2));
-    show("wait 2^32-1", m25p_wait(record, sizeof record, UINT32_MAX));
+    show("wait 2^32-1", m25p_wait(record, sizeof record, array, sizeof array, UINT32_MAX));
 }
 
 /* The longest transaction, and one byte more. */
@@ -145,7 +162,7 @@ static uint64_t program(unsigned address, uint8_t value, size_t n)
     sent[3] = (uint8_t)address;
     memset(sent + 4, value, n);
     answer = send(sent, n + 4, 0, 1, response, n + 4);
-    m25p_wait(record, sizeof record, 3);
+    m25p_wait(record, sizeof record, array, sizeof array, 3);
     return answer;
 }
 
@@ -165,15 +182,39 @@ static void rewrites(void)
     send(enable, 1, 0, 1, response, 1);
     show("erase", send(erase, 4, 0, 1, response, 4));
     show("program while busy", send(sent, 60, 0, 1, response, 60));
-    show("wait", m25p_wait(record, sizeof record, 5));
+    show("wait", m25p_wait(record, sizeof record, array, sizeof array, 5));
     show("FF after the erase", program(0x142, 0xFF, 256));
     program(0x100, 0x00, 1);
     send(enable, 1, 0, 1, response, 1);
     show("protect", send(protect, 2, 0, 1, response, 2));
-    show("power-up", m25p_power_up(record, sizeof record));
+    show("power-up", m25p_power_up(record, sizeof record, array, sizeof array));
     show("FF over 00, protected", program(0x100, 0xFF, 1));
     show("deliver", m25p_deliver(record, sizeof record, M25P_BENCH, array, sizeof array, 3, 5, 9, 2));
     show("FF after the delivery", program(0x100, 0xFF, 1));
+}
+
+/* A status write and a loss in it: the answer, and BP and SRWD then. */
+static void lose_settings(const char *name, size_t mask_len, uint32_t yes)
+{
+    const uint8_t enable[1] = {0x06}, settings[2] = {0x01, 0x88};
+    fresh();
+    send(enable, 1, 0, 1, response, 1);
+    send(settings, 2, 0, 1, response, 2);
+    show(name, lose(mask, mask_len, yes));
+    printf("%u %u %u\n", record[1], record[2], record[4]);
+}
+
+/* Masks of every length around the right one, and a yes that is right only at its full width. */
+static void losses(void)
+{
+    printf("losses\n");
+    lose_settings("mask of 255", 255, 1);
+    lose_settings("mask of 257", 257, 1);
+    lose_settings("no", 256, 0);
+    lose_settings("yes 1", 256, 1);
+    lose_settings("yes 256", 256, 256);
+    lose_settings("yes 2^31", 256, (uint32_t)1 << 31);
+    show("once more", lose(mask, 256, 0));
 }
 
 /* Every part by its name and size in the header: what delivery, RDID and RES answer, and what the two drive. */
@@ -219,6 +260,7 @@ int main(void)
     longest();
     pins();
     rewrites();
+    losses();
     parts();
     sent[0] = 0x05;
     empty("NULL", NULL);

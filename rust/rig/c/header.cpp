@@ -3,8 +3,8 @@
 
 int main()
 {
-    uint8_t record[M25P_RECORD_BYTES] = {};
-    uint64_t answer = m25p_wait(record, sizeof record, 1);
+    uint8_t record[M25P_RECORD_BYTES] = {}, array[M25P_BENCH_BYTES] = {}, mask[M25P_MASK_BYTES] = {};
+    uint64_t answer = m25p_loss(record, sizeof record, array, sizeof array, mask, sizeof mask, 1);
     bool refused = m25p_answer(answer) == M25P_RECORD_UNSOUND;
     bool alone = m25p_first(answer) == 0 && m25p_count(answer) == 0 && m25p_missing(answer) == 0;
     return refused && alone ? 0 : 1;

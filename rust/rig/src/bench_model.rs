@@ -104,8 +104,12 @@ impl Bench {
     pub fn carry_out(&mut self, line: &[u8]) -> (u8, Vec<u8>) {
         match parse(line) {
             None => (MALFORMED, Vec::new()),
-            Some(Line::PowerUp) => (Paper.power_up(&mut self.record).answer, Vec::new()),
-            Some(Line::Wait(t)) => (Paper.wait(&mut self.record, t).answer, Vec::new()),
+            Some(Line::PowerUp) => {
+                (Paper.power_up(&mut self.record, &mut self.array).answer, Vec::new())
+            }
+            Some(Line::Wait(t)) => {
+                (Paper.wait(&mut self.record, &mut self.array, t).answer, Vec::new())
+            }
             Some(Line::Transaction { w, pulses, sent }) => {
                 let t = Transaction { sent: &sent, pulses, w };
                 let mut response = vec![0; sent.len()];

@@ -1,13 +1,16 @@
 //! The comparison: one call is made to libm25p.a and to the model, and every lent byte is compared.
 
+mod ends;
 mod tally;
 
 pub use tally::Tally;
 
+use std::ops::Range;
+
 use m25p::{calls, Buffer};
 
-use crate::model::{self, address, Model, Packed, Paper, Record, Transaction};
-use crate::model::{BE, PARTS, RECORD_BYTES};
+use crate::model::{self, address, Cycle, Mode, Model, Packed, Paper, Record, Transaction};
+use crate::model::{PARTS, RECORD_BYTES};
 use crate::pins_model::{Found, PinsModel};
 use crate::rng::Rng;
 
@@ -26,6 +29,7 @@ pub enum Call {
     Transact { sent: Vec<u8>, pulses: u32, w: u32 },
     Wait(u32),
     PowerUp,
+    Loss { mask: Vec<u8>, yes: u32 },
     Pins { samples: Vec<u8> },
 }
 
@@ -119,8 +123,9 @@ impl Side {
             Call::Transact { sent, pulses, w } => {
                 calls::transact(record, array, sent, *pulses, *w, filled[0])
             }
-            Call::Wait(ticks) => calls::wait(record, *ticks),
-            Call::PowerUp => calls::power_up(record),
+            Call::Wait(ticks) => calls::wait(record, array, *ticks),
+            Call::PowerUp => calls::power_up(record, array),
+            Call::Loss { mask, yes } => calls::loss(record, array, mask, *yes),
             Call::Pins { samples } => calls::pins(record, array, samples, filled[0]),
         };
         reply.bits()
@@ -138,8 +143,9 @@ impl Side {
                 let t = Transaction { sent, pulses: *pulses, w: *w };
                 Seen::only(chip.transact(record, array, t, filled[0]).word())
             }
-            Call::Wait(ticks) => Seen::only(chip.wait(record, *ticks).word()),
-            Call::PowerUp => Seen::only(chip.power_up(record).word()),
+            Call::Wait(ticks) => Seen::only(chip.wait(record, array, *ticks).word()),
+            Call::PowerUp => Seen::only(chip.power_up(record, array).word()),
+            Call::Loss { mask, yes } => Seen::only(chip.loss(record, array, mask, *yes).word()),
             Call::Pins { samples } => {
                 let outcome = pins.run(record, array, samples, filled[0]);
                 Seen { word: outcome.word(), found: outcome.found, chip: outcome.chip }
@@ -178,11 +184,14 @@ impl Pair {
         let before = self.modelled.record.clone();
         self.real.prepare(step);
         self.modelled.prepare(step);
+        let lent = self.kept();
         // The model goes first, so that the tally sees the array from before the call.
         let seen = self.modelled.model_call(step, self.rules);
         tally.count(step, &seen, &self.modelled.filled, &self.real.array);
+        tally.ends.count(step, &seen, lent.as_ref());
         let word = self.real.call(step);
-        self.compare(step, word, &seen, tally.calls)
+        let touched = self.touched(step, &seen, lent.and_then(|record| record.cycle()));
+        self.compare(word, &seen, touched, tally.calls)
             .map_err(|difference| format!("{difference}\nat {}", describe(step, &before)))?;
         if self.kept().is_none_or(|record| record.part as usize != self.part) {
             self.real.record.clone_from(&before);
@@ -191,7 +200,14 @@ impl Pair {
         Ok(seen)
     }
 
-    fn compare(&self, step: &Step, word: u64, seen: &Seen, calls: u64) -> Result<(), String> {
+    /// Compares all but the array, and of that the bytes that the call may have changed; of a small one all.
+    fn compare(
+        &self,
+        word: u64,
+        seen: &Seen,
+        touched: Range<usize>,
+        calls: u64,
+    ) -> Result<(), String> {
         if word != seen.word {
             return Err(format!("answer {word:#x}, expected {:#x}", seen.word));
         }
@@ -199,19 +215,33 @@ impl Pair {
         for (real, modelled) in self.real.filled.iter().zip(&self.modelled.filled) {
             same("filled", 0, real, modelled)?;
         }
-        let part = &PARTS[self.part];
-        let small = part.bytes <= 131_072;
-        if small || touches_all(&step.call, seen.answer()) || calls % INTERVAL == 0 {
+        let bytes = PARTS[self.part].bytes;
+        if bytes <= 131_072 || calls % INTERVAL == 0 {
             return self.compare_array();
         }
         self.compare_window(0, END)?;
-        self.compare_window(part.bytes - END, part.bytes + SPARE)?;
-        match &step.call {
-            Call::Transact { sent, .. } if sent.len() >= 4 => {
-                let start = address(part, sent) / part.sector_bytes * part.sector_bytes;
-                self.compare_window(start, start + part.sector_bytes)
+        self.compare_window(bytes - END, bytes + SPARE)?;
+        self.compare_window(touched.start, touched.end)
+    }
+
+    /// The bytes of the array that a call may have changed, with the cycle of the record that it is lent; of a
+    /// transaction the sector of its address, which stays.
+    fn touched(&self, step: &Step, seen: &Seen, cycle: Option<Cycle>) -> Range<usize> {
+        let part = &PARTS[self.part];
+        let sector = |address: usize| {
+            let start = address % part.bytes / part.sector_bytes * part.sector_bytes;
+            start..start + part.sector_bytes
+        };
+        match (&step.call, cycle) {
+            (Call::Pins { .. }, _) => 0..part.bytes,
+            (Call::Deliver { .. }, _) if seen.answer() == 0 => 0..part.bytes,
+            (Call::Transact { sent, .. }, _) if sent.len() >= 4 => sector(address(part, sent)),
+            (Call::Deliver { .. } | Call::Transact { .. }, _) => 0..0,
+            (_, Some(Cycle::Program { address, .. } | Cycle::SectorErase { address })) => {
+                sector(address)
             }
-            _ => Ok(()),
+            (_, Some(Cycle::BulkErase)) if seen.answer() == 0 => 0..part.bytes,
+            _ => 0..0,
         }
     }
 
@@ -223,16 +253,6 @@ impl Pair {
     fn compare_window(&self, start: usize, end: usize) -> Result<(), String> {
         let (real, modelled) = (&self.real.array[start..end], &self.modelled.array[start..end]);
         same("array", start, real, modelled)
-    }
-}
-
-/// Whether a call with this answer may have changed the array anywhere.
-fn touches_all(call: &Call, answer: u8) -> bool {
-    match call {
-        Call::Deliver { .. } => answer == 0,
-        Call::Transact { sent, .. } => answer == 0 && sent.first() == Some(&BE),
-        Call::Wait(_) | Call::PowerUp => false,
-        Call::Pins { .. } => true,
     }
 }
 
@@ -261,6 +281,9 @@ fn describe(step: &Step, before: &[u8]) -> String {
         }
         Call::Wait(ticks) => format!("wait {ticks}"),
         Call::PowerUp => "power-up".to_string(),
+        Call::Loss { mask, yes } => {
+            format!("loss mask n {} {} yes {yes}", mask.len(), hex(mask, 256))
+        }
         Call::Pins { samples } => format!("{} samples {}", samples.len(), hex(samples, 2_000)),
     };
     let filled: Vec<usize> = step.filled.iter().map(|filled| filled.len).collect();

@@ -1,5 +1,7 @@
 //! Random calls, guided by the record so that every state and every answer comes up often.
 
+mod records;
+
 use crate::compare::{Call, Filled, Source, Step, SPARE};
 use crate::model::*;
 use crate::rng::Rng;
@@ -50,40 +52,54 @@ impl Source for Generator {
 impl Generator {
     /// A call, and the buffers that it fills.
     fn call(&mut self, now: &Record, odd: bool) -> (Call, Vec<Filled>) {
-        let wait = match now.mode {
-            Mode::Busy(_) => 2,
-            _ => 20,
+        let busy = now.cycle().is_some();
+        if !self.rng.one_in(if busy { 2 } else { 12 }) {
+            return self.transaction(now, odd);
+        }
+        let call = match (self.rng.below(24), busy) {
+            (0, _) | (1..=3, false) => self.delivery(odd),
+            (4..=6, _) => Call::PowerUp,
+            (7..=8, _) | (9..=15, true) => self.loss(odd),
+            _ => Call::Wait(self.ticks(now)),
         };
-        if self.rng.one_in(wait) {
-            return (Call::Wait(self.ticks(now)), vec![]);
-        }
-        if self.rng.one_in(60) {
-            return (Call::PowerUp, vec![]);
-        }
-        if self.rng.one_in(60) {
-            return (self.delivery(odd), vec![]);
-        }
-        self.transaction(now, odd)
+        (call, vec![])
     }
 
     fn ticks(&mut self, now: &Record) -> u32 {
         let left = match now.mode {
-            Mode::Busy(left) => left,
+            Mode::Busy(left, _) => left,
             _ => 1,
         };
         let random = self.rng.draw() as u32;
         self.rng.pick(&[0, 1, 2, left - 1, left, left, left + 1, left / 2, u32::MAX, random])
     }
 
-    /// Whether filling the array takes its time.
-    fn large(&self) -> bool {
-        PARTS[self.part].bytes >= 4_194_304
+    /// A power loss: masks of zeros, of ones, of few of either, or random.
+    fn loss(&mut self, odd: bool) -> Call {
+        let mut length = PAGE;
+        if odd && self.rng.one_in(2) {
+            length = self.rng.pick(&[0, 1, 255, 255, 257, 257, 512]);
+        }
+        let mut mask = self.rng.bytes(length);
+        match self.rng.below(6) {
+            0 => mask.fill(0x00),
+            1 => mask.fill(0xFF),
+            2 => mask.iter_mut().for_each(|byte| *byte &= self.rng.byte() & self.rng.byte()),
+            3 => mask.iter_mut().for_each(|byte| *byte |= self.rng.byte() | self.rng.byte()),
+            _ => {}
+        }
+        Call::Loss { mask, yes: self.flag() }
+    }
+
+    /// Whether filling an array takes its time.
+    fn large(part: usize) -> bool {
+        PARTS[part].bytes >= 4_194_304
     }
 
     /// A delivery; on the large parts it is mostly one that gets refused.
     fn delivery(&mut self, odd: bool) -> Call {
         let mut durations = [0; 4].map(|_| self.duration());
-        if odd || self.large() && !self.rng.one_in(20) {
+        if odd || Self::large(self.part) && !self.rng.one_in(20) {
             let wrong = [0, 1_000_001, 0x8000_0001, u32::MAX, self.rng.draw() as u32];
             durations[self.rng.below(4)] = self.rng.pick(&wrong);
         }
@@ -113,7 +129,7 @@ impl Generator {
             response_len = self.rng.pick(&[0, n / 2, n.saturating_sub(1)]);
         }
         let bytes = self.rng.bytes(response_len + SPARE);
-        let call = Call::Transact { sent, pulses: self.pulses(odd), w: self.w() };
+        let call = Call::Transact { sent, pulses: self.pulses(odd), w: self.flag() };
         (call, vec![Filled { bytes, len: response_len }])
     }
 
@@ -127,7 +143,8 @@ impl Generator {
         }
     }
 
-    fn w(&mut self) -> u32 {
+    /// A number that is 0 or not: W, or a loss's yes.
+    fn flag(&mut self) -> u32 {
         match self.rng.below(8) {
             0..=2 => 0,
             3..=5 => 1,
@@ -139,7 +156,7 @@ impl Generator {
     /// A first byte that has something to do in this state, mostly.
     fn code(&mut self, now: &Record) -> u8 {
         let likely = match now.mode {
-            Mode::Busy(_) => RDSR,
+            Mode::Busy(..) => RDSR,
             Mode::Deep => RES,
             Mode::Standby if now.latch => {
                 self.rng.pick(&[WRSR, WRSR, PP, PP, PP, PP, PP, SE, BE, READ, FAST_READ])
@@ -152,7 +169,7 @@ impl Generator {
             2..=10 => self.rng.pick(&CODES),
             _ => likely,
         };
-        if code == BE && self.large() && !self.rng.one_in(10) {
+        if code == BE && Self::large(self.part) && !self.rng.one_in(10) {
             return PP;
         }
         code
@@ -235,62 +252,5 @@ impl Generator {
             _ => 0,
         };
         base + above
-    }
-
-    /// A sound record of the part.
-    fn record_of(&mut self, part: usize) -> Record {
-        let sleeps = PARTS[part].signature.is_some();
-        let deep = if sleeps { Mode::Deep } else { Mode::Standby };
-        let busy = Mode::Busy(self.duration());
-        let mode = self.rng.pick(&[Mode::Standby, Mode::Standby, Mode::Standby, busy, deep]);
-        let highest = PARTS[part].highest_bp as usize;
-        let bp = self.rng.below(highest + 1) as u8;
-        Record {
-            part: part as u8,
-            bp: self.rng.pick(&[0, bp]),
-            srwd: self.rng.one_in(3),
-            latch: match mode {
-                Mode::Busy(left) => latch_at(left),
-                _ => self.rng.one_in(2),
-            },
-            mode,
-            program: self.duration(),
-            sector_erase: self.duration(),
-            bulk_erase: self.duration(),
-            write_status: self.duration(),
-        }
-    }
-
-    /// A packed record that is mostly not sound, or one of another part.
-    fn damaged(&mut self, now: &Record) -> Packed {
-        let mut bytes = now.pack();
-        let at = self.rng.below(RECORD_BYTES);
-        let wrong = [0, 1, 0x8000_0000, 1_000_000, 1_000_001, 0x0100_0001, u32::MAX];
-        match self.rng.below(8) {
-            0 => return self.sound_record_of_any().pack(),
-            1 => self.rng.fill(&mut bytes),
-            2 => bytes[at] ^= 1 << self.rng.below(8),
-            3 => bytes[at] = self.rng.byte(),
-            4 => bytes[self.rng.below(8)] = self.rng.pick(&[0, 1, 2, 3, 4, 5, 6, 7, 8, 255]),
-            5 => {
-                let field = 8 + 4 * self.rng.below(5);
-                let number = self.rng.pick(&wrong);
-                bytes[field..field + 4].copy_from_slice(&number.to_le_bytes());
-            }
-            6 => {
-                let random = self.duration();
-                let left = self.rng.pick(&[1, 2, random]);
-                let right = self.rng.one_in(4);
-                let latch = if right { latch_at(left) } else { !latch_at(left) };
-                bytes = Record { mode: Mode::Busy(left), latch, ..*now }.pack();
-            }
-            _ => bytes = Record { mode: Mode::Deep, ..*now }.pack(),
-        }
-        bytes
-    }
-
-    fn sound_record_of_any(&mut self) -> Record {
-        let part = self.rng.below(PARTS.len());
-        self.record_of(part)
     }
 }

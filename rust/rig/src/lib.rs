@@ -15,6 +15,8 @@ pub mod pins_generate;
 pub mod pins_model;
 pub mod plain_pins;
 pub mod probe;
+// The tools draw a power loss from a seed.
+#[path = "../../tools/src/rng.rs"]
 pub mod rng;
 
 /// Writes a line past the tests' capture, so that it is always seen.

@@ -1,58 +1,19 @@
-//! A model of the written rules: the four calls, rule by rule in the paper's order, plain and slow.
+//! A model of the written rules: the five calls, rule by rule in the papers' order, plain and slow.
 //!
 //! Each rule is a method, so that a test can put a wrong reading in the place of one of them.
 
+mod cycle;
 mod part;
 mod record;
+mod transaction;
 
+use std::ops::Range;
+
+pub use cycle::{Cycle, CYCLE_BYTES, PAGE};
 pub use part::{Part, PARTS, SMALL};
-pub use record::{is_duration, latch_at, Mode, Packed, Record, RECORD_BYTES};
-
-pub const WREN: u8 = 0x06;
-pub const WRDI: u8 = 0x04;
-pub const RDID: u8 = 0x9F;
-pub const RDSR: u8 = 0x05;
-pub const WRSR: u8 = 0x01;
-pub const READ: u8 = 0x03;
-pub const FAST_READ: u8 = 0x0B;
-pub const PP: u8 = 0x02;
-pub const SE: u8 = 0xD8;
-pub const BE: u8 = 0xC7;
-pub const DP: u8 = 0xB9;
-pub const RES: u8 = 0xAB;
-
-/// The twelve instruction codes.
-pub const CODES: [u8; 12] = [WREN, WRDI, RDID, RDSR, WRSR, READ, FAST_READ, PP, SE, BE, DP, RES];
-
-/// What is sent: the whole bytes, the further pulses, and W (low for 0, else high).
-#[derive(Clone, Copy)]
-pub struct Transaction<'a> {
-    pub sent: &'a [u8],
-    pub pulses: u32,
-    pub w: u32,
-}
-
-/// The four numbers of an answer.
-#[derive(Clone, Copy, Debug, PartialEq, Eq)]
-pub struct Outcome {
-    pub answer: u8,
-    pub first: usize,
-    pub count: usize,
-    /// How many bits a program wanted 1 that were 0 in the array.
-    pub missing: u32,
-}
-
-impl Outcome {
-    pub fn only(answer: u8) -> Outcome {
-        Outcome { answer, first: 0, count: 0, missing: 0 }
-    }
-
-    /// The answer as a C call carries it.
-    pub fn word(&self) -> u64 {
-        let seen = self.answer as u64 | (self.first as u64) << 8 | (self.count as u64) << 16;
-        seen | (self.missing as u64) << 48
-    }
-}
+pub use record::{is_duration, latch_at, Mode, Packed, Record, CYCLE_AT, RECORD_BYTES};
+pub use transaction::{address, full_address, Outcome, Transaction, CODES};
+pub use transaction::{BE, DP, FAST_READ, PP, RDID, RDSR, READ, RES, SE, WRDI, WREN, WRSR};
 
 /// The rules.
 pub trait Model: Sync {
@@ -110,36 +71,52 @@ pub trait Model: Sync {
         }
         let missing = self.told(&r, array, t.sent, 0);
         let outcome = Outcome { missing, ..self.drive(&r, array, t.sent, response) };
-        self.change(&mut r, array, t.sent);
+        self.change(&mut r, t.sent);
         record.copy_from_slice(&r.pack());
         outcome
     }
 
-    fn wait(&self, record: &mut [u8], ticks: u32) -> Outcome {
-        let mut r = match self.unpack(record) {
+    fn wait(&self, record: &mut [u8], array: &mut [u8], ticks: u32) -> Outcome {
+        let mut r = match self.lent(record, array) {
             Ok(r) => r,
             Err(number) => return Outcome::only(number),
         };
-        if let Mode::Busy(left) = r.mode {
+        if let Mode::Busy(left, cycle) = r.mode {
             if ticks < left {
-                self.cycle(&mut r, left - ticks);
+                self.in_cycle(&mut r, left - ticks, cycle);
             } else {
-                r.mode = Mode::Standby;
-                r.latch = false;
+                self.complete(&mut r, array, &cycle);
+                r = r.rested();
             }
         }
         record.copy_from_slice(&r.pack());
         Outcome::only(0)
     }
 
-    fn power_up(&self, record: &mut [u8]) -> Outcome {
-        let mut r = match self.unpack(record) {
+    fn power_up(&self, record: &mut [u8], array: &mut [u8]) -> Outcome {
+        let mut r = match self.lent(record, array) {
             Ok(r) => r,
             Err(number) => return Outcome::only(number),
         };
-        r.mode = Mode::Standby;
-        r.latch = false;
-        record.copy_from_slice(&r.pack());
+        if let Some(cycle) = r.cycle() {
+            self.complete(&mut r, array, &cycle);
+        }
+        record.copy_from_slice(&r.rested().pack());
+        Outcome::only(0)
+    }
+
+    fn loss(&self, record: &mut [u8], array: &mut [u8], mask: &[u8], yes: u32) -> Outcome {
+        let mut r = match self.lent(record, array) {
+            Ok(r) => r,
+            Err(number) => return Outcome::only(number),
+        };
+        if mask.len() != PAGE {
+            return Outcome::only(41);
+        }
+        if let Some(cycle) = r.cycle() {
+            self.cut(&mut r, array, &cycle, mask, yes);
+        }
+        record.copy_from_slice(&r.rested().pack());
         Outcome::only(0)
     }
 
@@ -151,6 +128,15 @@ pub trait Model: Sync {
         Record::unpack(record).ok_or(6)
     }
 
+    /// The record, or 8 or 6, or 2 where the array is not of the part's size.
+    fn lent(&self, record: &[u8], array: &[u8]) -> Result<Record, u8> {
+        let r = self.unpack(record)?;
+        if array.len() != r.figures().bytes {
+            return Err(2);
+        }
+        Ok(r)
+    }
+
     /// The record, or the host side's number: 8, 6, then 2, 3, 4, 5.
     fn accept(
         &self,
@@ -159,10 +145,7 @@ pub trait Model: Sync {
         t: Transaction,
         response: &[u8],
     ) -> Result<Record, u8> {
-        let r = self.unpack(record)?;
-        if array.len() != r.figures().bytes {
-            return Err(2);
-        }
+        let r = self.lent(record, array)?;
         if t.sent.len() > 65_536 {
             return Err(3);
         }
@@ -195,9 +178,9 @@ pub trait Model: Sync {
         let code = t.sent[0];
         match number {
             14 => !self.known(r.figures(), code),
-            12 => matches!(r.mode, Mode::Busy(_)) && code != RDSR,
+            12 => r.cycle().is_some() && code != RDSR,
             13 => r.mode == Mode::Deep && code != RES,
-            15 => !as_needed(code, n, t.pulses),
+            15 => !transaction::as_needed(code, n, t.pulses),
             16 => matches!(code, WRSR | PP | SE | BE) && !r.latch,
             17 => self.protected(r, t),
             18 => code == WRSR && self.frozen(r, t.w),
@@ -271,39 +254,39 @@ pub trait Model: Sync {
         self.driven(r, array, sent, sent.len() - 1)
     }
 
-    /// What an executed transaction does to record and array.
-    fn change(&self, r: &mut Record, array: &mut [u8], sent: &[u8]) {
-        let part = r.figures();
+    /// What an executed transaction does to the record; it does nothing to the array.
+    fn change(&self, r: &mut Record, sent: &[u8]) {
         match sent[0] {
             WREN => r.latch = true,
             WRDI => r.latch = false,
-            WRSR => {
-                r.srwd = sent[1] & 0x80 != 0;
-                r.bp = self.bp(part, sent[1]);
-                self.cycle(r, r.write_status);
-            }
-            PP => {
-                self.program(array, address(part, sent), &sent[4..]);
-                self.cycle(r, r.program);
-            }
-            SE => {
-                let start = address(part, sent) / part.sector_bytes * part.sector_bytes;
-                array[start..start + part.sector_bytes].fill(0xFF);
-                self.cycle(r, r.sector_erase);
-            }
-            BE => {
-                self.bulk_erase(r, array);
-                self.cycle(r, r.bulk_erase);
-            }
             DP => r.mode = Mode::Deep,
             RES => r.mode = Mode::Standby,
-            _ => {}
+            _ => {
+                if let Some(cycle) = self.started(r, sent) {
+                    self.in_cycle(r, r.duration(&cycle), cycle);
+                }
+            }
         }
     }
 
-    /// Into a cycle with so many ticks left.
-    fn cycle(&self, r: &mut Record, left: u32) {
-        r.cycle(left);
+    /// The cycle that an instruction starts, if it starts one.
+    fn started(&self, r: &Record, sent: &[u8]) -> Option<Cycle> {
+        let part = r.figures();
+        match sent[0] {
+            WRSR => Some(Cycle::Settings { bp: self.bp(part, sent[1]), srwd: sent[1] & 0x80 != 0 }),
+            PP => {
+                let address = address(part, sent);
+                Some(Cycle::Program { address, slots: self.slots(address, &sent[4..]) })
+            }
+            SE => Some(Cycle::SectorErase { address: address(part, sent) }),
+            BE => Some(Cycle::BulkErase),
+            _ => None,
+        }
+    }
+
+    /// In a cycle with so many ticks left.
+    fn in_cycle(&self, r: &mut Record, left: u32, cycle: Cycle) {
+        *r = r.busy(left, cycle);
     }
 
     /// BP in a status byte: bits 4 to 2, or bits 3 and 2 where the highest BP is 3.
@@ -311,20 +294,61 @@ pub trait Model: Sync {
         status >> 2 & if part.highest_bp == 3 { 3 } else { 7 }
     }
 
-    fn bulk_erase(&self, _: &Record, array: &mut [u8]) {
-        array.fill(0xFF);
-    }
-
-    /// Data into the latch of 256 slots, then the latch onto the addressed page.
-    fn program(&self, array: &mut [u8], address: usize, data: &[u8]) {
-        let mut latch = [0xFF; 256];
+    /// Data in the latch of 256 slots, all FF at first.
+    fn slots(&self, address: usize, data: &[u8]) -> [u8; PAGE] {
+        let mut slots = [0xFF; PAGE];
         for (k, byte) in data.iter().enumerate() {
-            let slot = &mut latch[(address + k) % 256];
+            let slot = &mut slots[(address + k) % PAGE];
             *slot = self.slot(*slot, *byte);
         }
-        let page = address / 256 * 256;
-        for (byte, slot) in array[page..page + 256].iter_mut().zip(latch) {
-            *byte = self.programmed(*byte, slot);
+        slots
+    }
+
+    /// A cycle's last tick: what it is for comes about.
+    fn complete(&self, r: &mut Record, array: &mut [u8], cycle: &Cycle) {
+        for at in self.area(r, cycle) {
+            array[at] = self.completed(cycle, array[at], at);
+        }
+        self.settle(r, cycle);
+    }
+
+    /// A cycle that is cut: some of what it is for comes about.
+    fn cut(&self, r: &mut Record, array: &mut [u8], cycle: &Cycle, mask: &[u8], yes: u32) {
+        for at in self.area(r, cycle) {
+            array[at] = self.cut_short(cycle, array[at], at, mask);
+        }
+        if yes != 0 {
+            self.settle(r, cycle);
+        }
+    }
+
+    /// The bytes of the array that a cycle acts on.
+    fn area(&self, r: &Record, cycle: &Cycle) -> Range<usize> {
+        cycle.area(r.figures())
+    }
+
+    /// The settings that a settings write was for.
+    fn settle(&self, r: &mut Record, cycle: &Cycle) {
+        if let Cycle::Settings { bp, srwd } = *cycle {
+            (r.bp, r.srwd) = (bp, srwd);
+        }
+    }
+
+    /// A byte of the area when the cycle is complete.
+    fn completed(&self, cycle: &Cycle, old: u8, at: usize) -> u8 {
+        match cycle {
+            Cycle::Program { slots, .. } => self.programmed(old, slots[at % PAGE]),
+            Cycle::SectorErase { .. } | Cycle::BulkErase => 0xFF,
+            Cycle::Settings { .. } => old,
+        }
+    }
+
+    /// A byte of the area when the cycle is cut.
+    fn cut_short(&self, cycle: &Cycle, old: u8, at: usize, mask: &[u8]) -> u8 {
+        match cycle {
+            Cycle::Program { slots, .. } => old & (slots[at % PAGE] | mask[at % PAGE]),
+            Cycle::SectorErase { .. } | Cycle::BulkErase => old | mask[at % PAGE],
+            Cycle::Settings { .. } => old,
         }
     }
 
@@ -376,27 +400,4 @@ impl Model for Paper {}
 pub fn in_protected_sector(r: &Record, address: usize) -> bool {
     let part = r.figures();
     address / part.sector_bytes >= part.sectors - part.protected[r.bp as usize]
-}
-
-/// Whether n and the further pulses are as the instruction needs.
-fn as_needed(code: u8, n: usize, pulses: u32) -> bool {
-    match code {
-        WREN | WRDI | BE | DP => n == 1 && pulses == 0,
-        WRSR => n == 2 && pulses == 0,
-        SE => n == 4 && pulses == 0,
-        PP => n >= 5 && pulses == 0,
-        READ => n >= 4,
-        FAST_READ => n >= 5,
-        _ => n >= 1,
-    }
-}
-
-/// Bytes 1 to 3, high byte first.
-pub fn full_address(sent: &[u8]) -> usize {
-    (sent[1] as usize) << 16 | (sent[2] as usize) << 8 | sent[3] as usize
-}
-
-/// The address, modulo the part's size.
-pub fn address(part: &Part, sent: &[u8]) -> usize {
-    full_address(sent) % part.bytes
 }

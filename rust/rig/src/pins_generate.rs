@@ -94,7 +94,9 @@ impl PinsGenerator {
             match (sent.first(), sent.len()) {
                 (Some(&WREN), 1) => now.latch = true,
                 (Some(&RES), _) => now.mode = Mode::Standby,
-                (Some(&(WRSR | PP | SE | BE)), _) if now.latch => now.cycle(1),
+                (Some(&(WRSR | PP | SE | BE)), _) if now.latch => {
+                    now = now.busy(1, Cycle::BulkErase)
+                }
                 _ => {}
             }
             plans.push(Plan { sent, pulses, w });

@@ -124,7 +124,7 @@ impl Pins {
 }
 
 /// Carries a run out; the answer number and the bits missing.
-pub fn run(record: &mut [u8], array: &mut [u8], samples: &[u8], output: &mut [u8]) -> (u8, u32) {
+pub fn run(record: &mut [u8], array: &[u8], samples: &[u8], output: &mut [u8]) -> (u8, u32) {
     if record.len() != RECORD_BYTES {
         return (8, 0);
     }

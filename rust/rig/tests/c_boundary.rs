@@ -36,6 +36,7 @@ status           00
 read             66 6C 61 73 68 FF
 write enable     done
 rewrite          done, 3 bits missing: erase first
+read             62 6C 61 72 68 FF
 ";
 
 #[test]
@@ -78,8 +79,9 @@ fn order_of_arguments() {
     let expected = "\
 m25p_deliver: right, 22 of 22 exchanges noticed
 m25p_transact: right, 21 of 21 exchanges noticed
-m25p_wait: right, 1 of 1 exchanges noticed
-m25p_power_up: right, 0 of 0 exchanges noticed
+m25p_wait: right, 4 of 4 exchanges noticed
+m25p_power_up: right, 2 of 2 exchanges noticed
+m25p_loss: right, 9 of 9 exchanges noticed
 m25p_pins: right, 12 of 12 exchanges noticed
 ";
     prints("-std=c99", "rust/rig/c/arguments.c", expected);
@@ -117,11 +119,12 @@ fn proved(call: &str) -> Vec<String> {
 }
 
 /// The calls, and how many arguments each has.
-const CALLS: [(&str, usize); 5] = [
+const CALLS: [(&str, usize); 6] = [
     ("m25p_deliver", 9),
     ("m25p_transact", 10),
-    ("m25p_wait", 3),
-    ("m25p_power_up", 2),
+    ("m25p_wait", 5),
+    ("m25p_power_up", 4),
+    ("m25p_loss", 7),
     ("m25p_pins", 8),
 ];
 
@@ -146,7 +149,13 @@ deliver record: 8 0 0 0
 deliver array: 2 0 0 0
 deliver both: 8 0 0 0
 wait record: 8 0 0 0
+wait array: 2 0 0 0
 power-up record: 8 0 0 0
+power-up array: 2 0 0 0
+loss record: 8 0 0 0
+loss array: 2 0 0 0
+loss mask: 41 0 0 0
+loss all: 8 0 0 0
 transact record: 8 0 0 0
 transact array: 2 0 0 0
 transact sent: 11 0 0 0
@@ -166,7 +175,12 @@ lengths beyond 32 bits
 deliver record: 8 0 0 0
 deliver array: 2 0 0 0
 wait record: 8 0 0 0
+wait array: 2 0 0 0
 power-up record: 8 0 0 0
+power-up array: 2 0 0 0
+loss record: 8 0 0 0
+loss array: 2 0 0 0
+loss mask: 41 0 0 0
 transact record: 8 0 0 0
 transact array: 2 0 0 0
 transact sent: 3 0 0 0
@@ -212,6 +226,20 @@ power-up: 0 0 0 0
 FF over 00, protected: 17 0 0 0
 deliver: 0 0 0 0
 FF after the delivery: 0 0 0 0
+losses
+mask of 255: 41 0 0 0
+0 0 1
+mask of 257: 41 0 0 0
+0 0 1
+no: 0 0 0 0
+0 0 0
+yes 1: 0 0 0 0
+2 1 0
+yes 256: 0 0 0 0
+2 1 0
+yes 2^31: 0 0 0 0
+2 1 0
+once more: 0 0 0 0
 parts
 bench: 0 0 0, 00 00 0C, 0B
 M25P10-A: 0 0 0, 20 20 11, 10

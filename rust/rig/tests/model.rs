@@ -1,50 +1,12 @@
-//! The model on the worked cases K1 to K15, on cycles of one tick, on the latch of a sound busy record, on
-//! bits missing and on the older M25P10-A; and the bench model on the worked example.
+//! The model on the worked cases K1 to K15, on bits missing and on the older M25P10-A; and the bench model on the
+//! worked example. Cycles and power losses are in `model_cycles.rs`.
 
+#[path = "support/worked.rs"]
+mod cases;
+
+use cases::{case, worked};
 use rig::bench_model::{self, Line};
-use rig::model::{Mode, Model, Outcome, Packed, Paper, Record, Transaction};
-
-/// The chip of the worked cases: bench part, standby, BP 0, SRWD 0, latch set, array FF.
-struct Case {
-    record: Packed,
-    array: Vec<u8>,
-    response: Vec<u8>,
-}
-
-fn worked() -> Record {
-    Record { latch: true, ..Record::standby(0) }
-}
-
-fn case(record: Record) -> Case {
-    let array = vec![0xFF; record.figures().bytes];
-    Case { record: record.pack(), array, response: Vec::new() }
-}
-
-impl Case {
-    fn run(&mut self, sent: &[u8], pulses: u32, w: u32) -> Outcome {
-        self.response = vec![0; sent.len()];
-        let t = Transaction { sent, pulses, w };
-        Paper.transact(&mut self.record, &mut self.array, t, &mut self.response)
-    }
-
-    fn answer(&mut self, sent: &[u8]) -> u8 {
-        self.run(sent, 0, 1).answer
-    }
-
-    fn wait(&mut self, ticks: u32) {
-        assert_eq!(Paper.wait(&mut self.record, ticks).answer, 0);
-    }
-
-    fn status(&mut self) -> u8 {
-        let outcome = self.run(&[0x05, 0x00], 0, 1);
-        assert_eq!((outcome.answer, outcome.first, outcome.count), (0, 1, 1));
-        self.response[1]
-    }
-
-    fn now(&self) -> Record {
-        Record::unpack(&self.record).unwrap()
-    }
-}
+use rig::model::{Cycle, Mode, Outcome, Record};
 
 #[test]
 fn k1_no_bytes() {
@@ -72,6 +34,10 @@ fn k4_program_clears_bits() {
     let mut chip = case(worked());
     chip.array[7] = 0xF0;
     assert_eq!(chip.answer(&[0x02, 0, 0, 7, 0xAA]), 0);
+    for left in [3, 2, 1] {
+        assert_eq!(chip.array[7], 0xF0, "{left} ticks left");
+        chip.wait(1);
+    }
     assert_eq!(chip.array[7], 0xA0);
 }
 
@@ -82,6 +48,7 @@ fn k5_last_byte_wins() {
     sent.extend([0xFF; 255]);
     sent.push(0x22);
     assert_eq!(chip.answer(&sent), 0);
+    chip.wait(3);
     assert_eq!(chip.array[0], 0x22);
     assert!(chip.array[1..].iter().all(|byte| *byte == 0xFF));
 }
@@ -118,9 +85,10 @@ fn k9_frozen_status() {
 fn k10_status_write() {
     let mut chip = case(worked());
     assert_eq!(chip.answer(&[0x01, 0xFF]), 0);
-    assert_eq!(chip.status(), 0x8F);
-    chip.wait(2);
-    assert_eq!(chip.status(), 0x8C);
+    for status in [0x03, 0x01, 0x8C] {
+        assert_eq!(chip.status(), status);
+        chip.wait(1);
+    }
 }
 
 #[test]
@@ -187,6 +155,7 @@ fn missing_ones_over_zeros() {
         let mut chip = case(worked());
         chip.array[7] = before;
         assert_eq!(chip.run(&[0x02, 0, 0, 7, byte], 0, 1).missing, missing);
+        chip.wait(3);
         assert_eq!(chip.array[7], before & byte);
     }
 }
@@ -196,7 +165,7 @@ fn missing_ones_over_zeros() {
 fn missing_of_nothing_else() {
     let protected = Record { bp: 3, ..worked() };
     let reset = Record { latch: false, ..worked() };
-    let busy = Record { mode: Mode::Busy(2), ..worked() };
+    let busy = worked().busy(2, Cycle::BulkErase);
     let deep = Record { mode: Mode::Deep, ..worked() };
     let run_over_zeros = |record: Record, sent: &[u8], pulses: u32| {
         let mut chip = case(record);
@@ -216,41 +185,11 @@ fn missing_of_nothing_else() {
     }
 }
 
-/// A cycle of one tick starts with the latch reset.
-#[test]
-fn cycles_of_one_tick() {
-    let one = Record { program: 1, sector_erase: 1, bulk_erase: 1, write_status: 1, ..worked() };
-    for (sent, busy, after) in [
-        (&[0x02, 0, 0, 0, 0][..], 0x01, 0x00),
-        (&[0xD8, 0, 0, 0], 0x01, 0x00),
-        (&[0xC7], 0x01, 0x00),
-        (&[0x01, 0xFF], 0x8D, 0x8C),
-    ] {
-        let mut chip = case(one);
-        assert_eq!(chip.answer(sent), 0);
-        assert_eq!((chip.status(), chip.answer(&[0x06])), (busy, 12));
-        chip.wait(0);
-        assert_eq!(chip.status(), busy);
-        chip.wait(1);
-        assert_eq!(chip.status(), after);
-    }
-}
-
-/// A busy record is sound with the latch set exactly if more than one tick is left.
-#[test]
-fn sound_latches() {
-    for (left, set, reset) in [(0, false, false), (1, false, true), (2, true, false)] {
-        let busy = Record { mode: Mode::Busy(left), ..worked() };
-        let sound = |latch| Record::unpack(&Record { latch, ..busy }.pack()).is_some();
-        assert_eq!((sound(true), sound(false)), (set, reset), "{left} ticks left");
-    }
-}
-
 /// 9F gives 14 and drives nothing, whatever the mode; RES drives 10, and releases from deep power-down.
 #[test]
 fn older_m25p10a() {
     let standby = Record { latch: true, ..Record::standby(5) };
-    let busy = Record { mode: Mode::Busy(3), ..standby };
+    let busy = standby.busy(3, Cycle::BulkErase);
     let deep = Record { mode: Mode::Deep, ..standby };
     for record in [standby, busy, deep] {
         let mut chip = case(record);

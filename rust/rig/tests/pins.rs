@@ -64,7 +64,7 @@ fn faults_are_seen() {
         let mut seeds = Rng::new(DEFAULT_SEED);
         let mut tally = Tally::default();
         let mut differs = |seed| episode::<PinsGenerator>(0, 50, seed, rules, &mut tally).is_err();
-        let seen = (0..60).any(|_| differs(seeds.draw()));
+        let seen = (0..200).any(|_| differs(seeds.draw()));
         assert!(seen, "{name} was not seen in {} runs", tally.calls);
     }
 }

@@ -5,7 +5,7 @@
 //! letter for each sample, 0, 1, or z for not driven.
 
 use m25p::calls;
-use rig::model::{Mode, Model, Packed, Paper, Record, Transaction, CODES, RECORD_BYTES};
+use rig::model::{Cycle, Mode, Model, Packed, Paper, Record, Transaction, CODES, RECORD_BYTES};
 use rig::pins_model::{Outcome, PinsModel, CLOCK, DATA, HOLD, REST, SELECT, W};
 use rig::rng::Rng;
 
@@ -284,8 +284,8 @@ fn ignored_transactions_do_not_refuse_the_run() {
 
 #[test]
 fn no_ticks_pass_within_a_run() {
-    for (left, latch) in [(2, true), (1, false)] {
-        let busy = Record { mode: Mode::Busy(left), latch, ..worked() };
+    for left in [2, 1] {
+        let busy = worked().busy(left, Cycle::SectorErase { address: 7 });
         let mut case = case(busy);
         let words = format!("s {}S ", clocked(&[0x05, 0x00])).repeat(3);
         let (outcome, _) = case.run(&words, 0);
@@ -304,6 +304,7 @@ fn bits_missing_are_handed_up() {
     let (outcome, _) = chip.run(&words, 0);
     assert_eq!((outcome.numbers(), outcome.missing), (vec![0, 0, 12, 12], 4 + 2));
     assert_eq!(chip.array[..3], [0xA5, 0x3C, 0xFF]);
+    assert!(Record::unpack(&chip.record).unwrap().cycle().is_some(), "the program is pending");
     let thrown_away = format!("s {}h S", clocked(&[0x02, 0, 0, 0, 0xFF]));
     let unfinished = format!("s {}", clocked(&[0x02, 0, 0, 0, 0xFF]));
     for end in [&thrown_away, &unfinished] {
@@ -375,11 +376,12 @@ fn output_bytes_beyond_the_samples_are_untouched() {
 #[test]
 fn driven_after_the_bytes_before() {
     let mut rng = Rng::new(1);
-    let busy = [(Mode::Busy(2), true), (Mode::Busy(1), false)];
-    for (mode, latch) in [(Mode::Standby, true), (Mode::Deep, true)].into_iter().chain(busy) {
+    let standby = Record { latch: true, bp: 0, ..worked() };
+    let deep = Record { mode: Mode::Deep, ..standby };
+    let busy = [2, 1].map(|left| standby.busy(left, Cycle::BulkErase));
+    for start in [standby, deep].into_iter().chain(busy) {
         for code in CODES.into_iter().chain([0x00, 0x9E]) {
             for n in 1..9 {
-                let start = Record { mode, latch, bp: 0, ..worked() };
                 let (mut chip, array) = (case(start), case(start).array);
                 let mut sent = rng.bytes(n);
                 sent[0] = code;

@@ -1,12 +1,12 @@
 //! What hardware protection is worth (Wish 8), on libm25p.a: from a chip in standby with SRWD set, random
-//! transactions with W low, runs of raw pins with W low as Select rises, waits and power-ups leave BP, SRWD and each
-//! byte of a protected sector as they were. Which sectors are protected is told by the paper's table.
+//! transactions with W low, runs of raw pins with W low as Select rises, waits, power-ups and power losses leave BP,
+//! SRWD and each byte of a protected sector as they were. Which sectors are protected is told by the paper's table.
 
 use m25p::{Answer, Chip, Durations, Part};
 use rig::compare::{Call, Pair, Rules, Seen, Side, Source, Step, Tally, PAPER};
 use rig::faults;
 use rig::generate::Generator;
-use rig::model::{Mode, Record, PARTS, PP, RDSR, RECORD_BYTES, SMALL, WREN, WRSR};
+use rig::model::{Mode, Record, PAGE, PARTS, PP, RDSR, RECORD_BYTES, SMALL, WREN, WRSR};
 use rig::pins_generate::PinsGenerator;
 use rig::pins_model::{REST, SELECT, W};
 use rig::rng::Rng;
@@ -58,22 +58,28 @@ impl Tried for Modelled {
     }
 }
 
-/// Runs of raw pins, within which no ticks pass: between them a cycle ends, and so does deep power-down.
-struct Probing(PinsGenerator);
+/// Runs of raw pins, within which no ticks pass: between them a cycle ends or is cut, and so does deep power-down.
+struct Probing {
+    runs: PinsGenerator,
+    rng: Rng,
+}
 
 impl Source for Probing {
     fn new(part: usize, seed: u64) -> Probing {
-        Probing(PinsGenerator::new(part, seed))
+        Probing { runs: PinsGenerator::new(part, seed), rng: Rng::new(seed) }
     }
 
     fn sound_record(&mut self) -> Record {
-        self.0.sound_record()
+        self.runs.sound_record()
     }
 
     fn step(&mut self, now: &Record) -> Step {
         let between = match now.mode {
-            Mode::Standby => return self.0.step(now),
-            Mode::Busy(left) => Call::Wait(left),
+            Mode::Standby => return self.runs.step(now),
+            _ if self.rng.one_in(3) => {
+                Call::Loss { mask: self.rng.bytes(PAGE), yes: self.rng.below(2) as u32 }
+            }
+            Mode::Busy(left, _) => Call::Wait(left),
             Mode::Deep => Call::PowerUp,
         };
         let array_len = now.figures().bytes;
@@ -100,7 +106,7 @@ fn with_w_low(source: &mut impl Source, now: &Record) -> Step {
             Call::Deliver { .. } => continue,
             Call::Transact { w, .. } => *w = 0,
             Call::Pins { samples } => low_as_select_rises(samples),
-            Call::Wait(_) | Call::PowerUp => {}
+            Call::Wait(_) | Call::PowerUp | Call::Loss { .. } => {}
         }
         if step.record.is_none() {
             return step;
@@ -108,13 +114,23 @@ fn with_w_low(source: &mut impl Source, now: &Record) -> Step {
     }
 }
 
-/// How often each answer of the chip or the host side came, those within a run of raw pins singly.
-type Answers = [u64; 32];
+/// How often each answer of the chip or the host side came, those within a run of raw pins singly, and how often power
+/// was lost in a cycle.
+struct Count {
+    answers: [u64; 64],
+    cut: u64,
+}
 
-fn count(answers: &mut Answers, call: &Call, seen: &Seen) {
-    match call {
-        Call::Pins { .. } => seen.chip.iter().for_each(|one| answers[one.answer as usize] += 1),
-        _ => answers[seen.answer() as usize] += 1,
+impl Count {
+    fn count(&mut self, call: &Call, seen: &Seen, before: &Record) {
+        match call {
+            Call::Pins { .. } => {
+                seen.chip.iter().for_each(|one| self.answers[one.answer as usize] += 1);
+            }
+            _ => self.answers[seen.answer() as usize] += 1,
+        }
+        let lost = matches!(call, Call::Loss { .. }) && seen.answer() == 0;
+        self.cut += u64::from(lost && before.cycle().is_some());
     }
 }
 
@@ -123,7 +139,7 @@ fn endures<S: Source, T: Tried>(
     start: Record,
     seed: u64,
     rules: Rules,
-    answers: &mut Answers,
+    count: &mut Count,
 ) -> Result<(), String> {
     let mut rng = Rng::new(seed);
     let part = start.figures();
@@ -133,10 +149,10 @@ fn endures<S: Source, T: Tried>(
     let protected = (part.sectors - part.protected[start.bp as usize]) * part.sector_bytes..;
     let told = |what: &str, call| format!("{start:?}, seed {seed}, call {call}: {what}");
     for call in 1..=CALLS {
-        let record = &chip.side().record[..RECORD_BYTES];
-        let step = with_w_low(&mut source, &Record::unpack(record).expect("a sound record"));
+        let before = Record::unpack(&chip.side().record[..RECORD_BYTES]).expect("a sound record");
+        let step = with_w_low(&mut source, &before);
         let seen = chip.step(&step).map_err(|difference| told(&difference, call))?;
-        count(answers, &step.call, &seen);
+        count.count(&step.call, &seen, &before);
         // part, BP and SRWD are the first three bytes
         if chip.side().record[..3] != was.record[..3] {
             return Err(told("BP or SRWD is another", call));
@@ -150,23 +166,24 @@ fn endures<S: Source, T: Tried>(
 }
 
 /// Calls with W low from every BP of the part with SRWD set, the latch set or not.
-fn endure<S: Source, T: Tried>(part: usize, rules: Rules) -> Result<Answers, String> {
+fn endure<S: Source, T: Tried>(part: usize, rules: Rules) -> Result<Count, String> {
     let mut seeds = Rng::new(8);
-    let mut answers = [0; 32];
+    let mut count = Count { answers: [0; 64], cut: 0 };
     for bp in 0..=PARTS[part].highest_bp {
         for latch in [false, true] {
             let start = Record { bp, latch, srwd: true, ..Record::standby(part as u8) };
-            endures::<S, T>(start, seeds.draw(), rules, &mut answers)?;
+            endures::<S, T>(start, seeds.draw(), rules, &mut count)?;
         }
     }
-    Ok(answers)
+    Ok(count)
 }
 
-/// The library keeps what is protected, and each of these numbers came often.
+/// The library keeps what is protected; power was lost in cycles, and each of these numbers came often.
 fn library_keeps<S: Source>(part: usize, numbers: &[usize]) {
-    let answers = endure::<S, Pair>(part, PAPER).unwrap_or_else(|e| panic!("{e}"));
+    let count = endure::<S, Pair>(part, PAPER).unwrap_or_else(|e| panic!("{e}"));
+    assert!(count.cut >= 100, "part {part}: power was lost in {} cycles only", count.cut);
     for number in numbers {
-        let times = answers[*number];
+        let times = count.answers[*number];
         assert!(times >= 20, "part {part}: answer {number} came {times} times only");
     }
 }
@@ -194,6 +211,8 @@ fn chips_that_give_way_are_seen() {
         "ProtectedWithWHighAlone",
         "RunOnPage",
         "PowerUpClearsSettings",
+        "CutReachesAll",
+        "losses::Afterwards(losses::settings_are_reset)",
     ];
     for name in give_way {
         let fault = faults::CHIP.iter().find(|fault| fault.0 == name).expect("a fault so named");
@@ -235,5 +254,31 @@ fn w_high_once_or_srwd_reset_undoes_it() {
         assert_eq!(attempt(part, 0x84, false), (kept, 0x84, 0xFF), "{part:?}");
         assert_eq!(attempt(part, 0x84, true), (vec![Executed; 4], 0x00, 0x00), "{part:?}");
         assert_eq!(attempt(part, 0x04, false), (vec![Executed; 4], 0x00, 0x00), "{part:?}");
+    }
+}
+
+/// Another limit: a status write that was started with W high and is still running is no standby record. With W low
+/// from then on, its end, a power-up and a power loss that completed it take the protection away; one that left it
+/// absent does not.
+#[test]
+fn status_write_on_its_way_undoes_it() {
+    let ends: [(fn(&mut Chip), u8); 4] = [
+        (|chip| chip.wait(2), 0x00),
+        (|chip| chip.power_up(), 0x00),
+        (|chip| chip.loss(&[0x00; PAGE], true), 0x00),
+        (|chip| chip.loss(&[0x00; PAGE], false), 0x84),
+    ];
+    for part in Part::ALL {
+        for (end, status) in ends {
+            let mut chip = Chip::deliver(part, Durations::default()).expect("a delivery");
+            for settings in [0x84, 0x00] {
+                chip.wait(9);
+                chip.transact(&[WREN], 0, true).executed().expect("a write enable");
+                chip.transact(&[WRSR, settings], 0, true).executed().expect("a status write");
+            }
+            assert_eq!(chip.transact(&[RDSR, 0x00], 0, false).line[1], 0x87, "the old settings");
+            end(&mut chip);
+            assert_eq!(chip.transact(&[RDSR, 0x00], 0, false).line[1], status, "{part:?}");
+        }
     }
 }

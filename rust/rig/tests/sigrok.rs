@@ -11,7 +11,7 @@ use std::process::Command;
 use m25p::calls;
 use rig::compare::{Call, Source};
 use rig::generate::Generator;
-use rig::model::{Mode, Packed, Paper, Record, PARTS};
+use rig::model::{Cycle, Mode, Packed, Paper, Record, PARTS};
 use rig::pins_model::{End, Walking, NOT_DRIVEN};
 use rig::probe::{Probe, SpiMode};
 use rig::rng::Rng;
@@ -138,7 +138,7 @@ fn compare(name: &str, start: &Chip, all: &[Sent], mode: SpiMode, half: usize) {
 /// Records in which the chip takes everything, only a status read, or only a release.
 fn records(part: u8) -> Vec<Record> {
     let standby = Record { bp: 1, srwd: true, ..Record::standby(part) };
-    let busy = Record { latch: true, mode: Mode::Busy(7), ..standby };
+    let busy = standby.busy(7, Cycle::BulkErase);
     let deep = Record { mode: Mode::Deep, ..standby };
     if PARTS[part as usize].signature.is_some() {
         vec![standby, busy, deep]

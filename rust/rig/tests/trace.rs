@@ -52,7 +52,7 @@ fn model_answer(record: &mut [u8], array: &mut [u8], line: &str) -> String {
     let outcome = match fields[..] {
         ["w", ticks] => {
             hex = "-".to_string();
-            Paper.wait(record, ticks.parse().unwrap())
+            Paper.wait(record, array, ticks.parse().unwrap())
         }
         ["x", w, "0", pairs] => {
             let pair = |at| u8::from_str_radix(&pairs[at..at + 2], 16).unwrap();

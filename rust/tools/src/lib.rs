@@ -2,5 +2,6 @@
 
 pub mod pins;
 pub mod replace;
+pub mod rng;
 pub mod serprog;
 pub mod vcd;

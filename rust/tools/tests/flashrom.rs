@@ -9,7 +9,8 @@ use std::time::Instant;
 
 use m25p::Part;
 use support::flashrom::{find, tell, Flashrom};
-use support::{rng::Rng, scratch, Server};
+use support::{scratch, Server};
+use tools::rng::Rng;
 use tools::serprog::PARTS;
 
 /// A server and what flashrom needs to talk to it.

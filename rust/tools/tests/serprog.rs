@@ -12,7 +12,8 @@ use std::process::Command;
 use std::sync::atomic::{AtomicBool, Ordering};
 use std::thread;
 
-use support::{eventually, rng::Rng, scratch, Client, Server};
+use support::{eventually, scratch, Client, Server};
+use tools::rng::Rng;
 use tools::serprog::{operation, Image, ACK, MOST_READ, NAK, SYNCNOP, S_PIN_STATE};
 
 const BYTES: usize = 131_072;

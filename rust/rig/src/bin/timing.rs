@@ -1,11 +1,11 @@
-//! Times long reads, bulk erase and raw pins through the C calls against plain Rust, side by side in one run on
-//! x86-64, where both run on the same processor.
+//! Times long reads, bulk erases, cut ones too, and raw pins through the C calls against plain Rust, side by side in
+//! one run on x86-64, where both run on the same processor; and short transactions by themselves.
 
 use std::hint::black_box;
 use std::process::ExitCode;
 use std::time::{Duration, Instant};
 
-use m25p::{calls, Answer, Durations, Part, RECORD_BYTES};
+use m25p::{calls, Answer, Durations, Part, Reply, MASK_BYTES, RECORD_BYTES};
 use rig::kit;
 use rig::plain_pins;
 use rig::probe::{Probe, SpiMode};
@@ -15,6 +15,7 @@ const READ_BYTES: usize = 60_000;
 const ROUNDS: usize = 15;
 const READS: usize = 2_000;
 const ERASES: usize = 4;
+const SHORT: usize = 100_000;
 const SAMPLES: usize = 10_000_000;
 
 /// The plain read: FF while the address is sent, then the array, rolling over.
@@ -36,6 +37,14 @@ fn plain_read(array: &[u8], sent: &[u8], response: &mut [u8]) {
 #[inline(never)]
 fn plain_erase(array: &mut [u8]) {
     array.fill(0xFF);
+}
+
+/// The plain bulk erase that power cuts.
+#[inline(never)]
+fn plain_cut(array: &mut [u8], mask: &[u8; MASK_BYTES]) {
+    for page in array.chunks_exact_mut(MASK_BYTES) {
+        page.iter_mut().zip(mask).for_each(|(byte, mask)| *byte |= mask);
+    }
 }
 
 /// A chip for the C calls and an array for plain Rust, both touched already.
@@ -109,20 +118,38 @@ fn time_reads(part: Part) {
     report(&format!("{part} read of 60,000 bytes"), READS, times);
 }
 
-fn time_erases(part: Part) {
+/// Bulk erases, each ended by a call, against a plain one.
+fn time_erases(
+    what: &str,
+    part: Part,
+    end: impl Fn(&mut [u8], &mut [u8]) -> Reply,
+    plain: impl Fn(&mut [u8]),
+) {
     let mut both = Both::new(part);
     let times = middle(|| {
         let calls = timed(|| {
             for _ in 0..ERASES {
                 both.transact(&[0x06]);
                 both.transact(&[0xC7]);
-                calls::wait(&mut both.record, 1);
+                let reply = end(&mut both.record, &mut both.array);
+                assert_eq!(reply.answer(), Answer::Executed);
             }
         });
-        let plain = timed(|| (0..ERASES).for_each(|_| plain_erase(black_box(&mut both.plain))));
-        (calls, plain)
+        (calls, timed(|| (0..ERASES).for_each(|_| plain(black_box(&mut both.plain)))))
     });
-    report(&format!("{part} bulk erase"), ERASES, times);
+    report(&format!("{part} {what}"), ERASES, times);
+}
+
+/// Transactions of one or two bytes, which a plain program would hardly be asked for.
+fn time_short(part: Part) {
+    let mut both = Both::new(part);
+    for (name, sent) in [("write enable", &[0x06][..]), ("status read", &[0x05, 0x00])] {
+        let round = || timed(|| (0..SHORT).for_each(|_| both.transact(black_box(sent))));
+        let mut times: Vec<Duration> = std::iter::repeat_with(round).take(ROUNDS).collect();
+        times.sort();
+        let each = times[ROUNDS / 2].as_secs_f64() * 1e6 / SHORT as f64;
+        println!("{:<32} {each:>10.3} us", format!("{part} {name}"));
+    }
 }
 
 /// Ten million samples: reads of 4,096 bytes with a status read before each, then a page program and
@@ -184,10 +211,14 @@ fn main() -> ExitCode {
     }
     println!("middle of {ROUNDS} rounds; buffers written before, so no page is touched first");
     println!("{:<32} {:>13} {:>13}   ratio", "", "C call", "plain Rust");
+    let mask = &[0x3C; MASK_BYTES];
     for part in [Part::M25p32, Part::M25p128] {
         time_reads(part);
-        time_erases(part);
+        time_erases("bulk erase", part, |r, a| calls::wait(r, a, 1), plain_erase);
+        let cut = |r: &mut [u8], a: &mut [u8]| calls::loss(r, a, mask, 0);
+        time_erases("bulk erase, cut", part, cut, |a| plain_cut(a, mask));
     }
+    time_short(Part::M25p32);
     time_pins("mode 0", SpiMode::Zero);
     time_pins("mode 3", SpiMode::Three);
     ExitCode::SUCCESS

@@ -1,5 +1,6 @@
 //! What came up in a comparison, so that a test can see that nothing was left out.
 
+use super::ends::Ends;
 use super::{Call, Seen, Step};
 use crate::model::{full_address, CODES, PP};
 use crate::pins_model::{End, HOLD, NOT_DRIVEN};
@@ -7,13 +8,14 @@ use crate::pins_model::{End, HOLD, NOT_DRIVEN};
 /// Counts by number.
 pub type Counts = [u64; 256];
 
-/// How often each answer came, each instruction was executed, and what raw pins did.
+/// How often each answer came, each instruction was executed, how cycles ended, and what raw pins did.
 pub struct Tally {
     pub calls: u64,
     pub answers: Counts,
     /// Instructions executed in transactions given singly, by code.
     pub executed: Counts,
     pub programs: Programs,
+    pub ends: Ends,
     pub pins: PinsTally,
 }
 
@@ -55,8 +57,8 @@ impl Default for Tally {
         let (carried_out, thrown_away, unfinished) = (0, 0, 0);
         let pins =
             PinsTally { samples, driven, chip, carried_out, thrown_away, unfinished, long_held };
-        let programs = Programs::default();
-        Tally { calls: 0, answers: [0; 256], executed: [0; 256], programs, pins }
+        let (programs, ends) = (Programs::default(), Ends::default());
+        Tally { calls: 0, answers: [0; 256], executed: [0; 256], programs, ends, pins }
     }
 }
 
@@ -85,7 +87,7 @@ impl Tally {
         let executed: Vec<String> =
             CODES.iter().map(|c| format!("{c:02X}: {}", self.executed[*c as usize])).collect();
         let rest = match self.pins.samples {
-            0 => format!("executed {}", executed.join(", ")),
+            0 => format!("executed {}; {}", executed.join(", "), self.ends.show()),
             _ => self.pins.show(),
         };
         let (calls, answers) = (self.calls, listed(&self.answers));

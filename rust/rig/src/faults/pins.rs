@@ -160,7 +160,7 @@ struct TicksPass;
 impl PinsModel for TicksPass {
     fn carry_out(&self, found: &Found, record: &mut [u8], array: &mut [u8]) -> Answered {
         let outcome = Paper.carry_out(found, record, array)?;
-        Paper.wait(record, 1);
+        Paper.wait(record, array, 1);
         Some(outcome)
     }
 }

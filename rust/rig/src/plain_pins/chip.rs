@@ -10,7 +10,7 @@ pub struct Chip<'a> {
     pub shown: u8,
     /// The bits missing in all programs so far.
     pub missing: u32,
-    array: &'a mut [u8],
+    array: &'a [u8],
     sent: Vec<u8>,
     /// The bits of the unfinished byte, and how many they are.
     byte: u8,
@@ -23,7 +23,7 @@ pub struct Chip<'a> {
 }
 
 impl Chip<'_> {
-    pub fn new(record: Record, array: &mut [u8]) -> Chip<'_> {
+    pub fn new(record: Record, array: &[u8]) -> Chip<'_> {
         let sent = Vec::with_capacity(MOST_BYTES);
         let (shown, byte, bits, driven, address, next) = (NOT_DRIVEN, 0, 0, None, 0, 0);
         Chip { record, shown, missing: 0, array, sent, byte, bits, driven, address, next }
@@ -41,7 +41,7 @@ impl Chip<'_> {
         }
         let taken = match self.record.mode {
             Mode::Standby => true,
-            Mode::Busy(_) => code == RDSR,
+            Mode::Busy(..) => code == RDSR,
             Mode::Deep => code == RES,
         };
         let part = self.record.figures();
@@ -72,24 +72,25 @@ impl Chip<'_> {
     }
 
     fn program(&mut self) {
-        let page = self.address / 256 * 256;
-        let from = self.sent.len().saturating_sub(256).max(4);
+        let page = &self.array[self.address / PAGE * PAGE..][..PAGE];
+        let from = self.sent.len().saturating_sub(PAGE).max(4);
+        let mut slots = [0xFF; PAGE];
         for (k, byte) in self.sent.iter().enumerate().skip(from) {
-            let old = &mut self.array[page + (self.address + k - 4) % 256];
-            self.missing += (byte & !*old).count_ones();
-            *old &= byte;
+            let slot = (self.address + k - 4) % PAGE;
+            self.missing += (byte & !page[slot]).count_ones();
+            slots[slot] = *byte;
         }
-    }
-
-    fn erase_sector(&mut self) {
-        let bytes = self.record.figures().sector_bytes;
-        let start = self.address / bytes * bytes;
-        self.array[start..start + bytes].fill(0xFF);
+        self.start(Cycle::Program { address: self.address, slots });
     }
 
     fn write_status(&mut self) {
-        self.record.srwd = self.sent[1] & 0x80 != 0;
-        self.record.bp = self.sent[1] >> 2 & self.record.figures().highest_bp;
+        let bp = self.sent[1] >> 2 & self.record.figures().highest_bp;
+        self.start(Cycle::Settings { bp, srwd: self.sent[1] & 0x80 != 0 });
+    }
+
+    /// A cycle starts; no ticks pass within a run, so that none ends.
+    fn start(&mut self, cycle: Cycle) {
+        self.record = self.record.busy(self.record.duration(&cycle), cycle);
     }
 
     /// What a finished transaction changes.
@@ -107,22 +108,12 @@ impl Chip<'_> {
             (WRDI, 1, 0) => self.record.latch = false,
             (DP, 1, 0) if sleeps => self.record.mode = Mode::Deep,
             (RES, _, _) if sleeps => self.record.mode = Mode::Standby,
-            (WRSR, 2, 0) if r.latch && (w || !r.srwd) => {
-                self.write_status();
-                self.record.cycle(r.write_status);
-            }
-            (PP, 5.., 0) if r.latch && self.open_sector() => {
-                self.program();
-                self.record.cycle(r.program);
-            }
+            (WRSR, 2, 0) if r.latch && (w || !r.srwd) => self.write_status(),
+            (PP, 5.., 0) if r.latch && self.open_sector() => self.program(),
             (SE, 4, 0) if r.latch && self.open_sector() => {
-                self.erase_sector();
-                self.record.cycle(r.sector_erase);
+                self.start(Cycle::SectorErase { address: self.address });
             }
-            (BE, 1, 0) if r.latch && r.bp == 0 => {
-                self.array.fill(0xFF);
-                self.record.cycle(r.bulk_erase);
-            }
+            (BE, 1, 0) if r.latch && r.bp == 0 => self.start(Cycle::BulkErase),
             _ => {}
         }
     }

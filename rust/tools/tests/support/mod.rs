@@ -3,9 +3,6 @@
 mod common;
 #[allow(dead_code)]
 pub mod flashrom;
-#[allow(dead_code)]
-#[path = "../../../rig/src/rng.rs"]
-pub mod rng;
 
 use std::io::{BufRead, BufReader, Read, Write};
 use std::net::{Ipv4Addr, TcpStream};

@@ -1,0 +1,74 @@
+//! How cycles went on and ended in a comparison, by kind.
+
+use std::collections::BTreeMap;
+
+use super::{Call, Mode, Record, Seen, Step};
+
+/// What can become of a cycle.
+const WAYS: [&str; 10] = [
+    "waited in",
+    "waited just out",
+    "waited beyond",
+    "powered up",
+    "cut",
+    "cut in its last tick",
+    "cut with a mask of 00",
+    "cut with a mask of FF",
+    "cut with a yes",
+    "cut with a no",
+];
+
+/// The kinds by number, from 1 on.
+const KINDS: [&str; 4] = ["program", "sector erase", "bulk erase", "settings"];
+
+/// How often each came, by way and kind.
+#[derive(Default)]
+pub struct Ends(BTreeMap<(&'static str, u8), u64>);
+
+impl Ends {
+    /// Counts a call that was carried out on a busy record.
+    pub fn count(&mut self, step: &Step, seen: &Seen, lent: Option<&Record>) {
+        let Some(Record { mode: Mode::Busy(left, cycle), .. }) = lent else { return };
+        if seen.answer() == 0 {
+            for way in ways(&step.call, *left) {
+                *self.0.entry((way, cycle.kind())).or_default() += 1;
+            }
+        }
+    }
+
+    fn times(&self, way: &'static str, kind: usize) -> u64 {
+        self.0.get(&(way, kind as u8 + 1)).copied().unwrap_or(0)
+    }
+
+    /// What came less than so many times.
+    pub fn seldom(&self, times: u64) -> Vec<String> {
+        let all = WAYS.into_iter().flat_map(|way| (0..KINDS.len()).map(move |kind| (way, kind)));
+        let seldom = all.filter(|(way, kind)| self.times(way, *kind) < times);
+        seldom.map(|(way, kind)| format!("{} {way}", KINDS[kind])).collect()
+    }
+
+    pub fn show(&self) -> String {
+        let times = |way| [0, 1, 2, 3].map(|kind| self.times(way, kind).to_string());
+        let ways = WAYS.map(|way| format!("{way} {}", times(way).join(", ")));
+        format!("cycles ({}): {}", KINDS.join(", "), ways.join("; "))
+    }
+}
+
+/// The ways that a call is, with so many ticks left.
+fn ways(call: &Call, left: u32) -> Vec<&'static str> {
+    match call {
+        Call::Wait(ticks) if *ticks < left => vec!["waited in"],
+        Call::Wait(ticks) if *ticks == left => vec!["waited just out"],
+        Call::Wait(_) => vec!["waited beyond"],
+        Call::PowerUp => vec!["powered up"],
+        Call::Loss { mask, yes } => {
+            let all = |byte: u8| mask.iter().all(|of_mask| *of_mask == byte);
+            let mut ways = vec!["cut", if *yes == 0 { "cut with a no" } else { "cut with a yes" }];
+            ways.extend((left == 1).then_some("cut in its last tick"));
+            ways.extend(all(0x00).then_some("cut with a mask of 00"));
+            ways.extend(all(0xFF).then_some("cut with a mask of FF"));
+            ways
+        }
+        _ => vec![],
+    }
+}
