@@ -3,7 +3,7 @@
 use std::ops::Range;
 
 use crate::calls;
-use crate::{Answer, Buffer, Durations, Part, Reply, MASK_BYTES, RECORD_BYTES};
+use crate::{Answer, Buffer, Cycle, Durations, Part, Reply, MASK_BYTES, RECORD_BYTES};
 
 /// A chip that owns its record and its array.
 ///
@@ -111,6 +111,11 @@ impl Chip {
     /// The part.
     pub fn part(&self) -> Part {
         self.part
+    }
+
+    /// The cycle that is running, if one is.
+    pub fn cycle(&self) -> Option<Cycle> {
+        Cycle::of(&self.record)
     }
 
     /// The packed record.

@@ -53,6 +53,7 @@ mod answer;
 mod buffer;
 pub mod calls;
 mod chip;
+mod cycle;
 mod durations;
 mod part;
 pub mod pins;
@@ -72,6 +73,7 @@ mod kit;
 pub use answer::{Answer, Reply};
 pub use buffer::Buffer;
 pub use chip::{Chip, Response, Run};
+pub use cycle::Cycle;
 pub use durations::Durations;
 pub use part::{Part, UnknownPart};
 

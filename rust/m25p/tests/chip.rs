@@ -3,7 +3,8 @@
 
 use std::error::Error;
 
-use m25p::{calls, pins, Answer, Buffer, Chip, Durations, Part, Run, MASK_BYTES, RECORD_BYTES};
+use m25p::{calls, pins, Answer, Buffer, Chip, Cycle, Durations, Part};
+use m25p::{Run, MASK_BYTES, RECORD_BYTES};
 
 fn executed(chip: &mut Chip, sent: &[u8]) -> Vec<u8> {
     let response = chip.transact(sent, 0, true);
@@ -78,6 +79,25 @@ fn packed_cycles() {
     assert_eq!(packed(&[0xC7]), rest(&[3]));
     assert_eq!(packed(&[0x01, 0xFF]), rest(&[4, 3, 1]));
     assert_eq!(packed(&[0x06]), rest(&[]));
+}
+
+/// The running cycle by its name, from its first tick to its last.
+#[test]
+fn running_cycles() {
+    let address = 0x0EFF;
+    for (sent, cycle, ticks) in [
+        (&[0x02, 0xF0, 0xFE, 0xFF, 0x12][..], Cycle::Program { address }, 3),
+        (&[0xD8, 0xF0, 0xFE, 0xFF], Cycle::SectorErase { address }, 5),
+        (&[0xC7], Cycle::BulkErase, 9),
+        (&[0x01, 0x84], Cycle::StatusWrite { bp: 1, srwd: true }, 2),
+    ] {
+        let mut chip = in_cycle(Part::Bench, sent);
+        for _ in 0..ticks {
+            assert_eq!(chip.cycle(), Some(cycle));
+            chip.wait(1);
+        }
+        assert_eq!(chip.cycle(), None);
+    }
 }
 
 /// Power lost in each kind of cycle: what the array holds then, in the mask's first place and behind it.

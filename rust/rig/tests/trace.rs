@@ -1,5 +1,5 @@
-//! Traces of the server, asked of the model: all that flashrom asks for, and random programs without an erase. Where
-//! flashrom is not on the machine, its tests say so.
+//! Traces of the server, asked of the model: all that flashrom asks for, random programs without an erase, and power
+//! losses. Where flashrom is not on the machine, its tests say so.
 
 #[path = "../../tools/tests/support/common.rs"]
 #[allow(dead_code)]
@@ -45,18 +45,22 @@ fn traced(name: &str, part: Part, old: &[u8], new: &[u8]) -> Option<String> {
     Some(trace.text())
 }
 
+/// The bytes of pairs of hexadecimal digits.
+fn bytes(pairs: &str) -> Vec<u8> {
+    let pair = |at| u8::from_str_radix(&pairs[at..at + 2], 16).unwrap();
+    (0..pairs.len()).step_by(2).map(pair).collect()
+}
+
 /// Carries a line of the trace out on the model: what should stand behind the `=`.
 fn model_answer(record: &mut [u8], array: &mut [u8], line: &str) -> String {
     let fields: Vec<&str> = line.split(' ').collect();
-    let hex: String;
+    let mut hex = "-".to_string();
     let outcome = match fields[..] {
-        ["w", ticks] => {
-            hex = "-".to_string();
-            Paper.wait(record, array, ticks.parse().unwrap())
-        }
+        ["w", ticks] => Paper.wait(record, array, ticks.parse().unwrap()),
+        ["p"] => Paper.power_up(record, array),
+        ["loss", yes, mask] => Paper.loss(record, array, &bytes(mask), yes.parse().unwrap()),
         ["x", w, "0", pairs] => {
-            let pair = |at| u8::from_str_radix(&pairs[at..at + 2], 16).unwrap();
-            let sent: Vec<u8> = (0..pairs.len()).step_by(2).map(pair).collect();
+            let sent = bytes(pairs);
             let mut response = vec![0; sent.len()];
             let t = Transaction { sent: &sent, pulses: 0, w: w.parse().unwrap() };
             let outcome = Paper.transact(record, array, t, &mut response);
@@ -138,6 +142,38 @@ fn trace_of_rewrites_equals_model() {
         let times = all.iter().filter(|(_, missing)| numbers.contains(missing)).count();
         assert!(times >= 20, "{numbers:?} bits were missing {times} times only");
     }
+}
+
+/// Power is lost in one of these cycles, each in turn, with many seeds: the model is left with the same contents.
+#[test]
+fn trace_of_power_losses_equals_model() {
+    let (part, mut rng) = (Part::M25p10a, Rng::new(15));
+    let old = rng.bytes(part.bytes());
+    let program = [&[0x02, 0x01, 0x23, 0x45], &rng.bytes(256)[..]].concat();
+    let cycles = [vec![0xD8, 0, 0x80, 1], program, vec![0xC7], vec![0x01, 0x84]];
+    let mut left = Vec::new();
+    for (seed, cycle) in (0..8).flat_map(|seed| (1..=4).map(move |cycle| (seed, cycle))) {
+        let (trace, told) = (Told::default(), Told::default());
+        let mut board = Board::new(&Options::of(part));
+        board.fill(&old);
+        board.trace(Box::new(trace.clone()));
+        board.cut_after(cycle, seed, Box::new(told.clone()));
+        for sent in &cycles[..cycle as usize] {
+            board.operate(vec![0x06], 0);
+            board.operate(sent.clone(), 0);
+            board.delay(20_000_000);
+        }
+        board.finish();
+        let printed = trace.text();
+        assert_eq!((printed.matches("loss ").count(), told.text().lines().count()), (1, 1));
+        assert!(modelled(part, &old, &printed) == board.array(), "cycle {cycle}, seed {seed}");
+        left.push(board.array().to_vec());
+    }
+    let blank = |array: &Vec<u8>| array.iter().all(|byte| *byte == 0xFF);
+    assert!(left.iter().skip(3).step_by(4).all(blank), "a status write leaves the array alone");
+    left.sort();
+    left.dedup();
+    assert_eq!(left.len(), 3 * 8 + 1, "each other loss leaves something else");
 }
 
 #[test]

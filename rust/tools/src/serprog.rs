@@ -3,6 +3,7 @@
 //! An SPI operation is one transaction: the sent bytes, then as many dummy bytes as are to be read.
 
 mod board;
+mod cut;
 mod image;
 mod options;
 mod server;

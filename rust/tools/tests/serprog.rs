@@ -1,5 +1,5 @@
 //! The serprog server as a process: bad peers, one client after another, the image, the trace, the warning of a
-//! missing erase, and refusals to start.
+//! missing erase, a power loss, and refusals to start.
 
 mod support;
 
@@ -105,6 +105,43 @@ fn missing_erase_that_nobody_hears_of() {
         let end = server.stop();
         assert_eq!((end.status.success(), &end.complaints[..]), (true, ""));
     }
+}
+
+/// Power is lost in the second program, and told once on standard error; the server goes on, and the image has what was
+/// left of that program.
+#[test]
+fn power_loss() {
+    let (path, mut contents) = image("power_loss");
+    let server = Server::start("M25P10-A", &["--cut-after", "2", "--seed", "7"], Some(&path));
+    for address in [0x3FE, 0x4FE, 0x5FE] {
+        program(&mut server.client(), address, 0x00);
+    }
+    (contents[0x3FE], contents[0x5FE]) = (0x00, 0x00);
+    contents[0x4FE] = Rng::new(7).bytes(256)[0xFE];
+    assert!(![0x00, 0xFF].contains(&contents[0x4FE]), "the seed cuts this byte");
+    serves(&server, &contents);
+    let end = server.stop();
+    let line = "Power was lost in cycle 2, a page program (02) at 0004FE, and is back; \
+                --cut-after 2 --seed 7 repeats it.\n";
+    assert_eq!((end.status.success(), &end.complaints[..]), (true, line));
+    assert!(fs::read(&path).unwrap() == contents, "the image");
+}
+
+/// A program that still runs as its client goes is not in the image; as the server ends, it is.
+#[test]
+fn cycle_that_runs_at_the_end() {
+    let (path, mut contents) = image("running");
+    let server = Server::start("M25P10-A", &["--program", "1000", "--trace"], Some(&path));
+    let mut client = server.client();
+    client.operate(&[0x06], 0);
+    client.operate(&[0x02, 0x00, 0x06, 0x00, 0x5A], 0);
+    assert!(pin_state(&mut client, 0));
+    assert!(fs::read(&path).unwrap() == contents, "the program is still running");
+    drop(client);
+    let end = server.stop();
+    contents[0x600] = 0x5A;
+    assert!(fs::read(&path).unwrap() == contents, "the program is completed");
+    assert_eq!(end.printed.last().unwrap(), "p = 0 -");
 }
 
 #[test]

@@ -1,5 +1,5 @@
 //! The serprog protocol without a network: each command's answer, the limits, time, bits missing in trace and
-//! warning, and the options.
+//! warning, and the options. Power losses are in `serprog_cut.rs`.
 
 #[path = "support/told.rs"]
 mod told;
@@ -162,7 +162,8 @@ fn time() {
     assert_eq!(status(board), 0);
 }
 
-/// A client that hangs up at any byte: only whole operations are carried out.
+/// A client that hangs up at any byte: only whole operations are carried out, and a program that has started comes
+/// about with its last tick.
 #[test]
 fn cut_at_any_byte() {
     let enable = operation(&[0x06], 0);
@@ -178,9 +179,11 @@ fn cut_at_any_byte() {
             end.map_err(|e| e.kind()),
             if clean { Ok(()) } else { Err(ErrorKind::UnexpectedEof) }
         );
-        let programmed = cut >= whole;
-        assert_eq!(board.array()[..2] == [0x12, 0x34], programmed, "cut at {cut}");
-        assert!(programmed || board.array().iter().all(|byte| *byte == 0xFF));
+        let programmed = |board: &Board| board.array()[..2] == [0x12, 0x34];
+        let blank = |board: &Board| board.array().iter().all(|byte| *byte == 0xFF);
+        assert!(if cut == said.len() { programmed(board) } else { blank(board) }, "cut at {cut}");
+        board.delay(1_000);
+        assert!(if cut >= whole { programmed(board) } else { blank(board) }, "cut at {cut}");
     }
     let (end, heard) = talk(&mut board(), &[O_SPIOP, 0xFF, 0xFF, 0xFF, 0, 0, 0, 1, 2, 3]);
     assert_eq!((end.unwrap_err().kind(), heard), (ErrorKind::UnexpectedEof, vec![]));
@@ -263,6 +266,11 @@ fn options() {
     assert_eq!((durations.bulk_erase, durations.write_status), (1_000_000, 3));
     assert_eq!(options.image.unwrap().to_str(), Some("a/b"));
     assert!(options.warn_missing && !parsed("--part M25P40 --trace").unwrap().warn_missing);
+    assert_eq!((options.cut_after, options.seed), (None, 1));
+    let cut = |line: &str| parsed(&format!("--part M25P40 {line}")).map(|o| (o.cut_after, o.seed));
+    assert_eq!(cut("--cut-after 1000000000"), Ok((Some(1_000_000_000), 1)));
+    assert_eq!(cut("--seed 0 --cut-after 1"), Ok((Some(1), 0)));
+    assert_eq!(cut("--cut-after 7 --seed 4294967295"), Ok((Some(7), u32::MAX)));
 }
 
 #[test]
@@ -289,6 +297,10 @@ fn refused_options() {
         (&format!("{part} --warn-missing --warn-missing"), "--warn-missing is given twice."),
         (&format!("{part} --warn-missing 1"), "1 is not an option."),
         (&format!("{part} --image"), "--image has no value."),
+        (&format!("{part} --cut-after 0"), "--cut-after is 1 to 1000000000, not 0."),
+        (&format!("{part} --cut-after"), "--cut-after has no value."),
+        (&format!("{part} --cut-after 1 --seed -1"), "--seed is 0 to 4294967295, not -1."),
+        (&format!("{part} --seed 1"), "--seed is given without --cut-after."),
     ] {
         assert_eq!(parsed(line), Err(sentence.to_string()), "{line}");
     }

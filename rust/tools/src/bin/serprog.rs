@@ -37,6 +37,9 @@ fn run() -> Result<(), String> {
     if options.warn_missing {
         server.warn_missing(Box::new(stderr()));
     }
+    if let Some(cycle) = options.cut_after {
+        server.cut_after(cycle, options.seed, Box::new(stderr()));
+    }
     // The handler only sets a flag, which is safe at any moment.
     for number in [SIGINT, SIGTERM] {
         unsafe { signal(number, stop) };

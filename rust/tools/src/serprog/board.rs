@@ -1,10 +1,11 @@
 //! The chip on its board: the level of W, and time, which passes by a tick for each transaction and by
-//! delays. Nothing sleeps. What happens can be traced, and a missing erase be told.
+//! delays. Nothing sleeps. What happens can be traced, a missing erase be told, and power be lost in a cycle.
 
 use std::io::Write;
 
 use m25p::{Chip, Response};
 
+use super::cut::{Cut, Loss};
 use super::options::Options;
 
 const WREN: u8 = 0x06;
@@ -19,6 +20,8 @@ pub struct Board {
     trace: Option<Box<dyn Write + Send>>,
     /// Where the first missing erase is to be told, until it is.
     warning: Option<Box<dyn Write + Send>>,
+    /// The cycle that power is to be lost in.
+    cut: Option<Cut>,
 }
 
 impl Board {
@@ -26,8 +29,8 @@ impl Board {
     pub fn new(options: &Options) -> Board {
         let chip = Chip::deliver(options.part, options.durations).expect("the options are checked");
         let (w_high, tick_us) = (options.w_high, options.tick_us);
-        let (trace, warning) = (None, None);
-        let mut board = Board { chip, w_high, tick_us, rest: 0, trace, warning };
+        let (trace, warning, cut) = (None, None, None);
+        let mut board = Board { chip, w_high, tick_us, rest: 0, trace, warning, cut };
         let status = u8::from(options.srwd) << 7 | options.bp << 2;
         if status != 0 {
             board.transact(&[WREN], true);
@@ -42,7 +45,11 @@ impl Board {
     pub fn operate(&mut self, mut sent: Vec<u8>, read: usize) -> Option<Vec<u8>> {
         let written = sent.len();
         sent.resize(written + read, 0);
+        let running = self.chip.cycle().is_some();
         let Response { answer, mut line, .. } = self.transact(&sent, self.w_high);
+        if !running {
+            self.cut();
+        }
         self.wait(1);
         let heard = answer.executed().is_ok() || answer.ignored();
         heard.then(|| line.split_off(written))
@@ -68,6 +75,21 @@ impl Board {
         self.warning = Some(into);
     }
 
+    /// Power will be lost in the cycle of this number, counted from 1 from now on, as soon as it has started. By
+    /// the seed comes what the loss leaves of it. It is told in a line.
+    pub fn cut_after(&mut self, cycle: u32, seed: u32, into: Box<dyn Write + Send>) {
+        self.cut = Some(Cut::new(cycle, seed, into));
+    }
+
+    /// A cycle that is still running is completed, as by a power-up.
+    pub fn finish(&mut self) {
+        if self.chip.cycle().is_some() {
+            self.chip.power_up();
+            self.note("p = 0 -");
+        }
+    }
+
+    /// The contents; a cycle that is still running has changed nothing of them.
     pub fn array(&self) -> &[u8] {
         self.chip.array()
     }
@@ -79,7 +101,7 @@ impl Board {
 
     fn transact(&mut self, sent: &[u8], w_high: bool) -> Response {
         let response = self.chip.transact(sent, 0, w_high);
-        if let Some(trace) = &mut self.trace {
+        if self.trace.is_some() {
             let (answer, w) = (response.answer.number(), u8::from(w_high));
             let line = match sent {
                 [] => format!("x {w} 0 = {answer} -"),
@@ -89,7 +111,7 @@ impl Board {
                 0 => String::new(),
                 bits => format!(" missing {bits}"),
             };
-            let _ = writeln!(trace, "{line}{missing}");
+            self.note(&format!("{line}{missing}"));
         }
         if response.missing > 0 {
             self.warn(sent, response.missing);
@@ -110,12 +132,29 @@ impl Board {
         let _ = writeln!(into, "An erase was missing: {program}. Further ones are not told.");
     }
 
+    /// Power is lost if a cycle has just started, and it is the one: before its first tick, so that one of a
+    /// single tick is cut, too.
+    fn cut(&mut self) {
+        let (Some(cut), Some(cycle)) = (&mut self.cut, self.chip.cycle()) else { return };
+        if let Some(Loss { mask, yes }) = cut.started(cycle) {
+            self.chip.loss(&mask, yes);
+            self.note(&format!("loss {} {} = 0 -", u8::from(yes), hex(&mask)));
+        }
+    }
+
     /// No cycle is longer than the greatest wait of one call.
     fn wait(&mut self, ticks: u64) {
         let ticks = u32::try_from(ticks).unwrap_or(u32::MAX);
         self.chip.wait(ticks);
+        if self.trace.is_some() {
+            self.note(&format!("w {ticks} = 0 -"));
+        }
+    }
+
+    /// Writes a line into the trace, if there is one.
+    fn note(&mut self, line: &str) {
         if let Some(trace) = &mut self.trace {
-            let _ = writeln!(trace, "w {ticks} = 0 -");
+            let _ = writeln!(trace, "{line}");
         }
     }
 }

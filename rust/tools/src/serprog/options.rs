@@ -36,6 +36,9 @@ serprog --part NAME [option]...   an M25P chip for flashrom, on a loopback port
                      with the bits missing where an executed program wants bits 1 that are 0
   --warn-missing     say on standard error that an erase was missing: once, at the first such
                      program, with its page's address in hexadecimal and the bits missing
+  --cut-after N      lose power in the N-th cycle (program, erase or status write) that a client
+                     starts, and have it back at once; a line on standard error tells of it
+  --seed S           what that loss leaves of the cycle, 0 to 4294967295; 1
 ";
 
 #[derive(Clone, Debug, PartialEq, Eq)]
@@ -50,6 +53,8 @@ pub struct Options {
     pub durations: Durations,
     pub trace: bool,
     pub warn_missing: bool,
+    pub cut_after: Option<u32>,
+    pub seed: u32,
 }
 
 impl Options {
@@ -66,6 +71,8 @@ impl Options {
             durations: Durations::from([2, 1_000, 10_000, 5]),
             trace: false,
             warn_missing: false,
+            cut_after: None,
+            seed: 1,
         }
     }
 
@@ -92,6 +99,9 @@ impl Options {
             seen.push(word);
         }
         options.part = part.ok_or(format!("--part is missing: {}.", names()))?;
+        if options.cut_after.is_none() && seen.iter().any(|word| word == "--seed") {
+            return Err("--seed is given without --cut-after.".to_string());
+        }
         options.check()
     }
 
@@ -108,6 +118,8 @@ impl Options {
             "--program" => self.durations.program = ticks()?,
             "--sector-erase" => self.durations.sector_erase = ticks()?,
             "--bulk-erase" => self.durations.bulk_erase = ticks()?,
+            "--cut-after" => self.cut_after = Some(number(1, 1_000_000_000)?),
+            "--seed" => self.seed = number(0, u32::MAX)?,
             _ => self.durations.write_status = ticks()?,
         }
         Ok(())
@@ -124,7 +136,7 @@ impl Options {
     }
 }
 
-const KNOWN: [&str; 13] = [
+const KNOWN: [&str; 15] = [
     "--part",
     "--image",
     "--port",
@@ -138,6 +150,8 @@ const KNOWN: [&str; 13] = [
     "--write-status",
     "--trace",
     "--warn-missing",
+    "--cut-after",
+    "--seed",
 ];
 
 /// A part by flashrom's name, in any case.

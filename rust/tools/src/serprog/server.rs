@@ -48,13 +48,18 @@ impl Server {
         self.board.warn_missing(into);
     }
 
+    /// Power will be lost in the cycle of this number, see [`Board::cut_after`].
+    pub fn cut_after(&mut self, cycle: u32, seed: u32, into: Box<dyn Write + Send>) {
+        self.board.cut_after(cycle, seed, into);
+    }
+
     /// The address to be told to clients.
     pub fn address(&self) -> io::Result<SocketAddr> {
         self.listener.local_addr()
     }
 
-    /// Serves until told to stop. Where the image can't be written, `complain` is told, and the next time
-    /// is another try; at the end it is an error.
+    /// Serves until told to stop; a cycle that is running then is completed. Where the image can't be written,
+    /// `complain` is told, and the next time is another try; at the end it is an error.
     pub fn run(&mut self, stop: &AtomicBool, complain: impl Fn(&str)) -> Result<(), String> {
         while !stop.load(Ordering::Relaxed) {
             let Ok((stream, _)) = self.listener.accept() else {
@@ -68,6 +73,7 @@ impl Server {
             let _ = Link::new(stream, stop).and_then(|link| serve(link, board, &mut stored));
             stored(board);
         }
+        self.board.finish();
         store(&mut self.image, &self.board)
     }
 }

@@ -1,0 +1,41 @@
+//! The cycle that is running, as the packed record has it.
+
+use crate::RECORD_BYTES;
+
+/// What the chip is busy with. It comes about with the last tick, and is cut by a power loss before.
+#[derive(Clone, Copy, Debug, PartialEq, Eq, Hash)]
+pub enum Cycle {
+    /// A page program, with the address that was sent, modulo the part's size.
+    Program {
+        /// In the page.
+        address: u32,
+    },
+    /// A sector erase, with the address that was sent, modulo the part's size.
+    SectorErase {
+        /// In the sector.
+        address: u32,
+    },
+    /// A bulk erase.
+    BulkErase,
+    /// A status write.
+    StatusWrite {
+        /// The block protect bits as they are to be.
+        bp: u8,
+        /// Status register write disable as it is to be.
+        srwd: bool,
+    },
+}
+
+impl Cycle {
+    /// That of a sound record, if one is running.
+    pub(crate) fn of(record: &[u8; RECORD_BYTES]) -> Option<Cycle> {
+        let address = u32::from_le_bytes([record[32], record[33], record[34], record[35]]);
+        match record[28] {
+            0 => None,
+            1 => Some(Cycle::Program { address }),
+            2 => Some(Cycle::SectorErase { address }),
+            3 => Some(Cycle::BulkErase),
+            _ => Some(Cycle::StatusWrite { bp: record[29], srwd: record[30] == 1 }),
+        }
+    }
+}
