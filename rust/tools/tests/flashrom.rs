@@ -45,9 +45,14 @@ impl Bench {
 
     /// Ends the server, whose image has these contents then. In no program an erase was missing.
     fn end(self, contents: &[u8]) {
+        self.end_having_told(contents, "");
+    }
+
+    /// The same of a server that has told this on standard error.
+    fn end_having_told(self, contents: &[u8], told: &str) {
         let end = self.server.stop();
         assert!(end.status.success() && end.printed.is_empty(), "{}", end.complaints);
-        assert_eq!(end.complaints, "");
+        assert_eq!(end.complaints, told);
         assert!(fs::read(&self.image).unwrap() == contents, "the image");
     }
 }
@@ -211,4 +216,60 @@ fn deep_power_down_does_not_hide_the_older() {
     bench.flashrom.succeed(&["-c", "M25P10"], None);
     assert!(bench.read("M25P10") == contents);
     bench.end(&contents);
+}
+
+/// Power is lost in the third program of a write to a blank chip: flashrom says at which byte the page differs, and its
+/// write fails. All other pages are written, and a second write puts this one right.
+#[test]
+fn cut_program_fails_the_verification() {
+    for part in ["M25P10-A", "M25P40", "M25P128"] {
+        let bytes = named(part).bytes();
+        let (contents, options) = (full(bytes, 11), ["--cut-after", "3", "--seed", "5"]);
+        let Some(bench) = Bench::new("cut_program", part, &vec![0xFF; bytes], &options) else {
+            return;
+        };
+        let (fine, said) = bench.flashrom.write(part, &contents);
+        let mask = Rng::new(5).bytes(256);
+        let mut left = contents.clone();
+        left[0x200..0x300].iter_mut().zip(mask).for_each(|(byte, mask)| *byte |= mask);
+        let first = (0..bytes).find(|at| left[*at] != contents[*at]).unwrap();
+        assert!(!fine, "{part}: the write succeeded:\n{said}");
+        assert!(said.contains(&format!("FAILED at 0x{first:08x}!")), "{part}: {said}");
+        assert!(said.contains("Your flash chip is in an unknown state."), "{part}: {said}");
+        assert!(bench.read(part) == left, "{part}: the page that was cut, and no other");
+        let (fine, said) = bench.flashrom.write(part, &contents);
+        assert!(fine && said.contains("VERIFIED."), "{part}: the second write:\n{said}");
+        let told = "Power was lost in cycle 3, a page program (02) at 000200, and is back; \
+                    --cut-after 3 --seed 5 repeats it.\n";
+        bench.end_having_told(&contents, told);
+    }
+}
+
+/// Power is lost in the first erase of a write: flashrom looks at what it erased, says so, and erases once more.
+#[test]
+fn cut_erase_is_seen_and_repeated() {
+    let (part, bytes) = ("M25P40", Part::M25p40.bytes());
+    let (old, contents) = (full(bytes, 12), full(bytes, 13));
+    let Some(bench) = Bench::new("cut_erase", part, &old, &["--cut-after", "1"]) else { return };
+    let (fine, said) = bench.flashrom.write(part, &contents);
+    assert!(said.contains("ERASE FAILED!"), "{said}");
+    assert!(fine && said.contains("VERIFIED."), "{said}");
+    let told = "Power was lost in cycle 1, a sector erase (D8) at 000000, and is back; \
+                --cut-after 1 --seed 1 repeats it.\n";
+    bench.end_having_told(&contents, told);
+}
+
+/// Power is lost as flashrom unlocks the chip, and by the seed the status write is absent: the whole array stays.
+#[test]
+fn cut_unlocking() {
+    let (part, bytes) = ("M25P40", Part::M25p40.bytes());
+    let old = sparse(bytes, 14);
+    let options = ["--bp", "7", "--cut-after", "1", "--seed", "1"];
+    let Some(bench) = Bench::new("cut_unlocking", part, &old, &options) else { return };
+    let (fine, said) = bench.flashrom.write(part, &sparse(bytes, 15));
+    assert!(!fine && said.contains("Block protection could not be disabled!"), "{said}");
+    assert_eq!(bench.status() & !0x02, 0x1C, "BP stays");
+    let told = "Power was lost in cycle 1, a status write (01) of 00 that is absent, and is back; \
+                --cut-after 1 --seed 1 repeats it.\n";
+    bench.end_having_told(&old, told);
 }
