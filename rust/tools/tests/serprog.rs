@@ -127,6 +127,20 @@ fn power_loss() {
     assert!(fs::read(&path).unwrap() == contents, "the image");
 }
 
+/// A closed standard error does not keep power from being lost, nor the server from going on.
+#[test]
+fn power_loss_that_nobody_hears_of() {
+    let (path, mut contents) = image("unheard_loss");
+    let mut server = Server::start("M25P10-A", &["--cut-after", "1"], Some(&path));
+    server.child.stderr = None;
+    for address in [0x400, 0x500] {
+        program(&mut server.client(), address, 0x00);
+    }
+    (contents[0x400], contents[0x500]) = (Rng::new(1).byte(), 0x00);
+    serves(&server, &contents);
+    ends_well(server, &path, &contents);
+}
+
 /// A program that still runs as its client goes is not in the image; as the server ends, it is.
 #[test]
 fn cycle_that_runs_at_the_end() {
