@@ -1,66 +1,17 @@
-//! The serprog server as a process: bad peers, one client after another, the image, the trace, the warning of a
-//! missing erase, a power loss, and refusals to start.
+//! The serprog server as a process: bad peers, one client after another, the trace, the warning of a missing erase, a
+//! power loss, and refusals to start.
 
 mod support;
 
 use std::fs;
 use std::io::{Read, Write};
 use std::net::{Ipv4Addr, Shutdown, TcpListener};
-use std::os::unix::fs::{symlink, PermissionsExt};
-use std::path::{Path, PathBuf};
-use std::process::Command;
-use std::sync::atomic::{AtomicBool, Ordering};
 use std::thread;
 
-use support::{eventually, scratch, Client, Server};
+use support::served::{ends_well, image, program, refusal, serves, BYTES};
+use support::{eventually, Server};
 use tools::rng::Rng;
-use tools::serprog::{operation, Image, ACK, MOST_READ, NAK, SYNCNOP, S_PIN_STATE};
-
-const BYTES: usize = 131_072;
-
-/// An image for the M25P10-A in a directory of its own: random, but erased from 256 on.
-fn image(name: &str) -> (PathBuf, Vec<u8>) {
-    let mut contents = vec![0xFF; BYTES];
-    Rng::new(1).fill(&mut contents[..256]);
-    let path = scratch(name).join("chip.bin");
-    fs::write(&path, &contents).unwrap();
-    (path, contents)
-}
-
-/// Programs a byte and waits for the end of the cycle by polling.
-fn program(client: &mut Client, address: usize, byte: u8) {
-    client.operate(&[0x06], 0);
-    let address = address.to_be_bytes();
-    client.operate(&[&[0x02], &address[5..], &[byte]].concat(), 0);
-    eventually("the program ends", || client.operate(&[0x05], 1) == [0x00]);
-}
-
-/// Sets the state of the pin drivers; 0 lets the pins go. Whether it is acknowledged.
-fn pin_state(client: &mut Client, state: u8) -> bool {
-    client.send(&[S_PIN_STATE, state]);
-    client.receive(1) == [ACK]
-}
-
-/// What the server does next: it answers, and with these contents.
-fn serves(server: &Server, contents: &[u8]) {
-    let mut client = server.client();
-    client.send(&[SYNCNOP]);
-    assert_eq!(client.receive(2), [NAK, ACK]);
-    let mut read = Vec::new();
-    while read.len() < contents.len() {
-        let address = read.len().to_be_bytes();
-        read.extend(client.operate(&[&[0x03], &address[5..]].concat(), MOST_READ));
-    }
-    assert!(read == contents, "the chip's contents");
-}
-
-fn ends_well(server: Server, path: &Path, contents: &[u8]) {
-    let end = server.stop();
-    assert!(end.status.success());
-    assert_eq!((end.printed.len(), &end.complaints[..]), (0, ""));
-    assert!(fs::read(path).unwrap() == contents, "the image");
-    assert_eq!(fs::read_dir(path.parent().unwrap()).unwrap().count(), 1, "nothing else is left");
-}
+use tools::serprog::{operation, ACK, MOST_READ, NAK};
 
 /// Each transaction and wait as a line of the bench, with its answer.
 #[test]
@@ -139,23 +90,6 @@ fn power_loss_that_nobody_hears_of() {
     (contents[0x400], contents[0x500]) = (Rng::new(1).byte(), 0x00);
     serves(&server, &contents);
     ends_well(server, &path, &contents);
-}
-
-/// A program that still runs as its client goes is not in the image; as the server ends, it is.
-#[test]
-fn cycle_that_runs_at_the_end() {
-    let (path, mut contents) = image("running");
-    let server = Server::start("M25P10-A", &["--program", "1000", "--trace"], Some(&path));
-    let mut client = server.client();
-    client.operate(&[0x06], 0);
-    client.operate(&[0x02, 0x00, 0x06, 0x00, 0x5A], 0);
-    assert!(pin_state(&mut client, 0));
-    assert!(fs::read(&path).unwrap() == contents, "the program is still running");
-    drop(client);
-    let end = server.stop();
-    contents[0x600] = 0x5A;
-    assert!(fs::read(&path).unwrap() == contents, "the program is completed");
-    assert_eq!(end.printed.last().unwrap(), "p = 0 -");
 }
 
 #[test]
@@ -240,67 +174,6 @@ fn one_client_after_another() {
     ends_well(server, &path, &contents);
 }
 
-/// When a client lets the pins go, the image is written before that is acknowledged.
-#[test]
-fn image_is_written_as_the_pins_are_released() {
-    let (path, mut contents) = image("released");
-    let server = Server::start("m25p10-a", &[], Some(&path));
-    let mut client = server.client();
-    for (at, byte) in [(0x900, 0x55), (0xA00, 0x66)] {
-        program(&mut client, at, byte);
-        assert!(pin_state(&mut client, 1));
-        assert!(fs::read(&path).unwrap() == contents, "only when the pins are let go");
-        contents[at] = byte;
-        assert!(pin_state(&mut client, 0));
-        assert!(fs::read(&path).unwrap() == contents, "at once");
-    }
-    ends_well(server, &path, &contents);
-}
-
-/// One server has an image at a time, by whatever name, also after it was replaced.
-#[test]
-fn second_server_is_refused() {
-    let (path, mut contents) = image("second");
-    let link = scratch("second_from").join("link.bin");
-    symlink(&path, &link).unwrap();
-    let refused = || {
-        for name in [&path, &link] {
-            let sentence = refusal(&["--part", "M25P10-A"], Some(name));
-            let shown = path.canonicalize().unwrap();
-            let expected = format!("The image {} is in use by another server.\n", shown.display());
-            assert_eq!(sentence, expected);
-        }
-    };
-    let server = Server::start("M25P10-A", &[], Some(&path));
-    refused();
-    let mut client = server.client();
-    program(&mut client, 0xB00, 0x77);
-    assert!(pin_state(&mut client, 0));
-    refused();
-    contents[0xB00] = 0x77;
-    ends_well(server, &path, &contents);
-    ends_well(Server::start("M25P10-A", &[], Some(&link)), &path, &contents);
-}
-
-/// SIGTERM with a client in mid-command is an end, too; SIGKILL leaves the image as it was.
-#[test]
-fn signals() {
-    let (path, mut contents) = image("signals");
-    let mut server = Server::start("M25P10-A", &[], Some(&path));
-    let mut client = server.client();
-    program(&mut client, 0x500, 0x11);
-    server.child.kill().unwrap();
-    server.child.wait().unwrap();
-    assert!(fs::read(&path).unwrap() == contents);
-
-    let server = Server::start("M25P10-A", &[], Some(&path));
-    let mut client = server.client();
-    program(&mut client, 0x600, 0x22);
-    client.send(&[0x13, 9]);
-    contents[0x600] = 0x22;
-    ends_well(server, &path, &contents);
-}
-
 /// A client that never pauses does not keep the server from ending.
 #[test]
 fn end_under_load() {
@@ -318,88 +191,6 @@ fn end_under_load() {
     });
     ends_well(server, &path, &contents);
     assert!(!busy.join().unwrap(), "the server has ended first");
-}
-
-/// Where the image can't be written, it stays; the next client's end is another try.
-#[test]
-fn image_that_cannot_be_written() {
-    let (path, contents) = image("unwritable");
-    let programmed = [&contents[..0x700], &[0x33], &contents[0x701..]].concat();
-    for free_again in [true, false] {
-        fs::write(&path, &contents).unwrap();
-        let server = Server::start("M25P10-A", &[], Some(&path));
-        let taken = path.with_file_name(format!("chip.bin.{}.new", server.child.id()));
-        fs::create_dir(&taken).unwrap();
-        let mut client = server.client();
-        program(&mut client, 0x700, 0x33);
-        assert!(!pin_state(&mut client, 0), "not acknowledged");
-        drop(client);
-        serves(&server, &programmed);
-        assert!(fs::read(&path).unwrap() == contents);
-        if free_again {
-            fs::remove_dir(&taken).unwrap();
-            serves(&server, &programmed);
-        }
-        let end = server.stop();
-        assert!(end.complaints.contains("can't be written and stays as it was"));
-        assert_eq!(end.status.code(), Some(if free_again { 0 } else { 1 }));
-        assert!(fs::read(&path).unwrap() == if free_again { &programmed[..] } else { &contents });
-    }
-}
-
-/// Whoever reads the image while it is written back sees it whole, before or after, and no second server
-/// gets hold of it in between.
-#[test]
-fn image_is_replaced_as_a_whole() {
-    let path = scratch("whole").join("chip.bin");
-    fs::write(&path, vec![0; BYTES]).unwrap();
-    let mut image = Image::open(&path, BYTES).unwrap();
-    let done = AtomicBool::new(false);
-    let looks = thread::scope(|scope| {
-        let watch = scope.spawn(|| {
-            let mut looks = 0;
-            while !done.load(Ordering::Relaxed) {
-                let seen = fs::read(&path).unwrap();
-                assert!(seen.len() == BYTES && seen.iter().all(|byte| *byte == seen[0]));
-                assert!(Image::open(&path, BYTES).is_err_and(|e| e.contains("in use")));
-                looks += 1;
-            }
-            looks
-        });
-        (1..=100).for_each(|byte| image.store(&vec![byte; BYTES]).unwrap());
-        done.store(true, Ordering::Relaxed);
-        watch.join().unwrap()
-    });
-    assert!(looks > 10, "only {looks} looks");
-    assert!(fs::read(&path).unwrap() == vec![100; BYTES]);
-}
-
-#[test]
-fn links_and_permissions_stay() {
-    let (path, mut contents) = image("links");
-    fs::set_permissions(&path, fs::Permissions::from_mode(0o640)).unwrap();
-    let link = scratch("links_from").join("chip.bin");
-    symlink(&path, &link).unwrap();
-    let server = Server::start("M25P10-A", &[], Some(&link));
-    program(&mut server.client(), 0x800, 0x44);
-    contents[0x800] = 0x44;
-    ends_well(server, &path, &contents);
-    assert!(fs::symlink_metadata(&link).unwrap().is_symlink());
-    assert_eq!(fs::metadata(&path).unwrap().permissions().mode() & 0o777, 0o640);
-}
-
-/// The sentence with which the server refuses to start.
-fn refusal(options: &[&str], image: Option<&Path>) -> String {
-    let mut command = Command::new(env!("CARGO_BIN_EXE_serprog"));
-    command.args(options);
-    if let Some(image) = image {
-        command.arg("--image").arg(image);
-    }
-    let output = command.output().unwrap();
-    assert_eq!((output.status.code(), &output.stdout[..]), (Some(1), &b""[..]));
-    let text = String::from_utf8(output.stderr).unwrap();
-    assert!(text.lines().count() == 1 && text.ends_with(".\n"), "one sentence: {text}");
-    text
 }
 
 #[test]

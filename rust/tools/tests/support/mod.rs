@@ -3,6 +3,8 @@
 mod common;
 #[allow(dead_code)]
 pub mod flashrom;
+#[allow(dead_code)]
+pub mod served;
 
 use std::io::{BufRead, BufReader, Read, Write};
 use std::net::{Ipv4Addr, TcpStream};
