@@ -65,12 +65,11 @@ fn effects() {
     let ended = STARTS.map(|sent| {
         let mut chip = started(worked(), sent);
         chip.wait(9);
-        assert_eq!(
-            chip.now(),
-            Record { latch: false, bp: chip.now().bp, srwd: chip.now().srwd, ..worked() }
-        );
         chip
     });
+    let settings = Record { bp: 3, srwd: true, ..worked().rested() };
+    let records = ended.each_ref().map(|chip| chip.now());
+    assert_eq!(records, [worked().rested(), worked().rested(), worked().rested(), settings]);
     let mut programmed = vec![0x5A; 4_096];
     (programmed[0x3FF], programmed[0x300]) = (0x5A & 0x0F, 0x5A & 0x33);
     assert_eq!(ended[0].array, programmed);
@@ -78,10 +77,7 @@ fn effects() {
     erased[0x400..0x800].fill(0xFF);
     assert_eq!(ended[1].array, erased);
     assert_eq!(ended[2].array, vec![0xFF; 4_096]);
-    assert_eq!(
-        (&ended[3].array, ended[3].now().bp, ended[3].now().srwd),
-        (&vec![0x5A; 4_096], 3, true)
-    );
+    assert_eq!(ended[3].array, vec![0x5A; 4_096]);
 }
 
 /// A cycle of one tick starts with the latch reset.

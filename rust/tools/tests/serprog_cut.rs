@@ -38,8 +38,8 @@ fn line(cycle: u32, seed: u32, what: &str) -> String {
     format!("Power was lost in cycle {cycle}, {what}, and is back; --cut-after {cycle} --seed {seed} repeats it.\n")
 }
 
-/// Each kind of program and erase: its bytes by the seed's mask, told in a line, and a chip that is ready at once, however
-/// long the cycle would have been. The next cycles are whole.
+/// Each kind of program and erase: its bytes by the seed's mask, told in a line, and a chip that is ready at once,
+/// however long the cycle would have been. The next cycles are whole.
 #[test]
 fn programs_and_erases() {
     let program = [0x02, 0xFE, 0x12, 0xFE, 0x00, 0x0F, 0xF0];
@@ -96,8 +96,8 @@ fn status_writes() {
     assert_eq!(seen, [true; 2]);
 }
 
-/// Cycles are counted as they start; what is ignored and what is read in a cycle does not count, and a cycle of one tick
-/// is cut like any other.
+/// Cycles are counted as they start; what is ignored and what is read in a cycle does not count, and a cycle of one
+/// tick is cut like any other.
 #[test]
 fn counted_cycles() {
     for ticks in [1, 4] {

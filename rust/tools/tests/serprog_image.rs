@@ -1,4 +1,5 @@
-//! The image of a serprog server as a process: when it is written back, whose it is, and that it is whole at every moment.
+//! The image of a serprog server as a process: when it is written back, whose it is, and that it is whole at every
+//! moment.
 
 mod support;
 
