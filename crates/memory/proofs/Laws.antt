@@ -17,7 +17,7 @@ use Rattle.slices.proofs.Maps.{map-agree, getD-any}
 use Rattle.slices.proofs.Windows.{window-block, window-clamp, window-more}
 use Rattle.slices.proofs.Parts.{getD-lent}
 use Rattle.slices.proofs.Ands.{and-ff}
-use Rattle.memory.specs.Memory.{blank, filled, reached, landed, anded, programmed, erased, rolled}
+use Rattle.memory.specs.Memory.{blank, filled, reached, landed, anded, programmed, rolled}
 
 -- one data byte more
 pub filled-next : (latch : List ℕ) (at i : ℕ) (s : List ℕ) → i < length s
@@ -29,6 +29,12 @@ filled-next latch at i s h = rw (← add-assoc at i 1, drop-cons s i 0 h, add-on
 pub filled-end : (latch : List ℕ) (at i : ℕ) (s : List ℕ) → length s ≤ i → latch ≡ filled latch at (drop i s)
 unfolding filled
 filled-end latch at i s h = rw (drop-of-length-le s h)
+
+-- a latch keeps its length
+pub filled-length : (latch : List ℕ) (at : ℕ) (s : List ℕ) → length (filled latch at s) ≡ length latch
+unfolding filled
+filled-length latch at [] = refl
+filled-length latch at (b ∷ s) = filled-length (set latch (at % 256) b) (at + 1) s ∙ length-set latch (at % 256) b
 
 -- what there is of the page, lent and anded
 pub page-is : (at : ℕ) (slots xs : List ℕ) (from n : ℕ) → from ≡ min (at / 256 * 256) (length xs) → n ≡ min 256 (length xs - from)
@@ -49,16 +55,15 @@ page-is at slots xs from n p q =
         ap (λ (j : ℕ). bitAnd x (getD slots j 0)) r
     go i lt x false e = refl
 
--- a sector is a part
-pub sector-is : (size at : ℕ) (xs : List ℕ) → 0 < size → mapAt (window (at / size * size) (at / size * size + size) (put 255)) xs ≡ mapAt (erased size at) xs
-unfolding erased
-sector-is size at xs pos =
+-- a sector is a part: whatever is done to its bytes; with no size the whole is one sector
+pub sector-is : (size at : ℕ) (g : ℕ → ℕ → ℕ) (xs : List ℕ) → 0 < size
+    → mapAt (window (at / size * size) (at / size * size + size) g) xs ≡ mapAt (λ i x. cond (eqb (i / size) (at / size)) (g i x) x) xs
+sector-is size at g xs pos =
     let e : at / size * size + size ≡ (at / size + 1) * size = omega arith in
-    rw e (map-agree _ _ xs (λ i lt. window-block size (at / size) pos (put 255) i (getD xs i 0)))
+    rw e (map-agree _ _ xs (λ i lt. window-block size (at / size) pos g i (getD xs i 0)))
 
-pub sector-none : (at : ℕ) (xs : List ℕ) → mapAt (put 255) xs ≡ mapAt (erased 0 at) xs
-unfolding erased
-sector-none at xs = map-agree _ _ xs (λ i lt. rw (div-zero i, div-zero at))
+pub sector-none : (at : ℕ) (g : ℕ → ℕ → ℕ) (xs : List ℕ) → mapAt g xs ≡ mapAt (λ i x. cond (eqb (i / 0) (at / 0)) (g i x) x) xs
+sector-none at g xs = map-agree _ _ xs (λ i lt. rw (div-zero i, div-zero at))
 
 -- with no array nothing is read
 pub rolled-none : (a : List ℕ) (at : ℕ) (xs : List ℕ) → length a ≡ 0 → mapAt (put 255) xs ≡ mapAt (λ i x. rolled a at i) xs

@@ -1,4 +1,4 @@
--- The memory of a part, byte by byte: from document 01, 'Program', SE, BE and READ.
+-- The memory of a part, byte by byte: from document 01, 'Program', SE, BE and READ, and from document 02, Wish 9, a program and an erase that were cut.
 --     blank       a latch before any data: 256 bytes FF
 --     filled     a latch after data that starts at an address: data byte k goes to slot (address + k) modulo 256, one after the other
 --     reached     some data byte goes to a slot
@@ -6,12 +6,15 @@
 --     anded       byte x at place i and its slot, bit by bit
 --     programmed  byte x at place i after the page of an address was programmed: itself and its slot, bit by bit; other pages stay
 --     erased      byte x at place i after the sector of an address became FF
+--     ored        byte x at place i or the mask at its offset in the page, bit by bit
+--     cutPage     byte x at place i after a program of the page of an address was cut: itself and (slot or mask), bit by bit; other pages stay
+--     cutSector   byte x at place i after an erase of the sector of an address was cut: itself or the mask; other sectors stay
 --     rolled      what byte i of a read is, from an address on, over the last byte to byte 0; FF where there is no array
 use mathlib.Core.Bool.{Bool, false, cond, _||_}
 use mathlib.Core.List.{List, [], _∷_}
 use Prim.Native.Nat.{ℕ, _+_, _/_, _%_}
 use lib.ListN.{length, getD, set, replicate}
-use lib.Bits.{bitAnd}
+use lib.Bits.{bitAnd, bitOr}
 use lib.Dec.{eqb}
 
 unfoldable pub blank : List ℕ
@@ -37,6 +40,15 @@ programmed at slots i x = cond (eqb (i / 256) (at / 256)) (anded slots i x) x
 
 unfoldable pub erased : ℕ → ℕ → ℕ → ℕ → ℕ
 erased size at i x = cond (eqb (i / size) (at / size)) 255 x
+
+abbrev pub ored : List ℕ → ℕ → ℕ → ℕ
+ored mask i x = bitOr x (getD mask (i % 256) 0)
+
+unfoldable pub cutPage : ℕ → List ℕ → List ℕ → ℕ → ℕ → ℕ
+cutPage at slots mask i x = cond (eqb (i / 256) (at / 256)) (bitAnd x (bitOr (getD slots (i % 256) 0) (getD mask (i % 256) 0))) x
+
+unfoldable pub cutSector : ℕ → ℕ → List ℕ → ℕ → ℕ → ℕ
+cutSector size at mask i x = cond (eqb (i / size) (at / size)) (ored mask i x) x
 
 abbrev pub rolled : List ℕ → ℕ → ℕ → ℕ
 rolled array at i = getD array ((at + i) % length array) 255

@@ -1,10 +1,10 @@
-// The memory of a part: the page latch, programming, erasing, reading. Every function is total: a byte that is not there is not changed.
+// The memory of a part: the page latch, programming and erasing, whole or cut, and reading. Every function is total: a byte that is not there is not changed.
 ghost use mathlib.Core.Path.{_≡_};
-ghost use Prim.Native.Nat.{_≤_};
+ghost use Prim.Native.Nat.{_+_, _≤_};
 ghost use lib.ListN.{length, getD};
 ghost use lib.Count.{ones};
-ghost use Rattle.slices.specs.Changed.{mapAt, put, sumAt};
-ghost use Rattle.memory.specs.Memory.{blank, filled, anded, programmed, erased, rolled};
+ghost use Rattle.slices.specs.Changed.{mapAt, window, put, sumAt};
+ghost use Rattle.memory.specs.Memory.{blank, filled, anded, programmed, erased, ored, cutPage, cutSector, rolled};
 ghost use Rattle.memory.specs.Missing.{unmet, pageOf, missing};
 
 // A latch after the data: byte k in slot (address + k) mod 256, a later byte in place of an earlier.
@@ -98,6 +98,49 @@ pub fn erase_sector(array: &mut [u8], size: usize, address: usize)
         erase_all(array);
     } else {
         slices::fill_part(array, address / size * size, size, 0xFF);
+    }
+}
+
+// Each of `count` bytes from `from` on, as far as there are any, or the mask at its offset in the page.
+fn or_part(array: &mut [u8], from: usize, count: usize, mask: &[u8])
+    ensures { λ _. ⌜ now (array .exit) ≡ mapAt (window from (from + count) (ored (now (mask .entry)))) (now (array .entry)) ⌝ }
+{
+    let start = slices::least(from, array.len());
+    let room = array.len() - start;
+    let end = start + slices::least(count, room);
+    let mut i = start;
+    while i < end {
+        array[i] = array[i] | slices::byte_at(mask, i % 256);
+        i += 1;
+    }
+}
+
+// Cuts a program of the page of an address: a program of the slots, each or the mask.
+pub fn cut_page(array: &mut [u8], address: usize, slots: [u8; 256], mask: &[u8])
+    ensures { λ _. ⌜ now (array .exit) ≡ mapAt (cutPage address slots (now (mask .entry))) (now (array .entry)) ⌝ }
+{
+    let mut reached = slots;
+    let start = 0;
+    or_part(&mut reached, start, 256, mask);
+    program_page(array, address, reached);
+}
+
+// Cuts an erase of the whole array: each byte or the mask.
+pub fn cut_all(array: &mut [u8], mask: &[u8])
+    ensures { λ _. ⌜ now (array .exit) ≡ mapAt (ored (now (mask .entry))) (now (array .entry)) ⌝ }
+{
+    let start = 0;
+    or_part(array, start, array.len(), mask);
+}
+
+// Cuts an erase of the sector of `size` bytes that an address lies in; with no size, the whole array is one sector.
+pub fn cut_sector(array: &mut [u8], size: usize, address: usize, mask: &[u8])
+    ensures { λ _. ⌜ now (array .exit) ≡ mapAt (cutSector size address (now (mask .entry))) (now (array .entry)) ⌝ }
+{
+    if size == 0 {
+        cut_all(array, mask);
+    } else {
+        or_part(array, address / size * size, size, mask);
     }
 }
 

@@ -2,11 +2,12 @@
 -- Assumes nothing.
 use mathlib.Core.Path.{_≡_, refl, sym, ap, ap₂, _∙_}
 use mathlib.Core.Bool.{Bool, true, false, _&&_, false≢true}
-use mathlib.Core.List.{List, [], _∷_}
+use mathlib.Core.List.{List, [], _∷_, _++_}
 use Prim.Native.Nat.{ℕ, _+_, _<_, _≤_}
+use native.Mathlib.Nat.{le-of-suc-le-suc, not-suc-le-zero}
 use native.Mathlib.Numerals.{add-one}
 use lib.Dec.{eqb}
-use lib.ListN.{length, getD, drop, drop-of-length-le}
+use lib.ListN.{length, getD, take, drop, drop-of-length-le}
 use lib.Seq.{drop-cons}
 use borrow.Author.Tests.{eq-eqb, eqb-true}
 use Rattle.slices.specs.Bytes.{sameBytes}
@@ -48,3 +49,9 @@ same-next xs ys i all e h k = e ∙ rw (drop-cons xs i 0 h, drop-cons ys i 0 k, 
 
 pub same-end : (xs ys : List ℕ) (i : ℕ) (all : Bool) {r : Bool} → r ≡ all && sameBytes (drop i xs) (drop i ys) → length xs ≤ i → length ys ≤ i → all ≡ r
 same-end xs ys i all e h k = sym (e ∙ rw (drop-of-length-le xs h, drop-of-length-le ys k) (and-end all))
+
+-- a list that is compared with other bytes and its own rest: the front alone decides
+pub same-front : (ys xs : List ℕ) → length ys ≤ length xs → sameBytes xs (ys ++ drop (length ys) xs) ≡ sameBytes (take (length ys) xs) ys
+same-front [] xs h = same-self xs
+same-front (y ∷ ys) [] h = absurd (not-suc-le-zero h)
+same-front (y ∷ ys) (x ∷ xs) h = ap (λ (b : Bool). eqb x y && b) (same-front ys xs (le-of-suc-le-suc h))
