@@ -19,10 +19,10 @@ pub struct Acted {
     pub device: Device,
 }
 
-// What a read found: more input, or its end.
-pub enum Input {
-    More(State),
-    End(State),
+// What a read brought: whether there may be more, and what stands then.
+struct Input {
+    more: bool,
+    state: State,
 }
 
 // Writes the text that waits.
@@ -82,7 +82,7 @@ fn act(
             return exchange(device, w, pulses, n, array, sent, response);
         }
         Command::Wait(t) => {
-            let done = device.wait(t);
+            let done = device.wait(array, t);
             let device = done.device;
             return Acted {
                 answer: done.answer,
@@ -91,7 +91,7 @@ fn act(
             };
         }
         Command::PowerUp => {
-            let done = device.power_up();
+            let done = device.power_up(array);
             let device = done.device;
             return Acted {
                 answer: done.answer,
@@ -212,11 +212,12 @@ fn read_some(
     let mut chunk = io::buffer();
     let got = libc::read(0, &mut chunk);
     if got <= 0 {
-        return Input::End(state);
+        return Input { more: false, state };
     }
     let n = io::count(got, &chunk);
     let next = feed(&chunk[..n], line, array, sent, response, text, state);
-    Input::More(written(text, next))
+    let state = written(text, next);
+    Input { more: true, state }
 }
 
 // Reads to the end of the input.
@@ -231,13 +232,10 @@ fn run(
     let mut state = start;
     let mut turns = u64::MAX;
     while turns > 0 {
-        match read_some(line, array, sent, response, text, state) {
-            Input::More(next) => {
-                state = next;
-            }
-            Input::End(last) => {
-                return last;
-            }
+        let input = read_some(line, array, sent, response, text, state);
+        state = input.state;
+        if !input.more {
+            return state;
         }
         turns -= 1;
     }

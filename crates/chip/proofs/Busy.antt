@@ -10,7 +10,6 @@ use lib.Dec.{eqb, leb}
 use lib.ListN.{length, getD, take}
 use Rattle.slices.specs.Changed.{sumAt}
 use Rattle.slices.proofs.Choices.{cond-ind}
-use Rattle.slices.proofs.Maps.{map-same}
 use Rattle.parts.specs.declared.Figures.{Figures}
 use Rattle.parts.specs.Parts.{figuresOf}
 use Rattle.device.specs.declared.Mode.{Mode}
@@ -21,7 +20,7 @@ use Rattle.chip.specs.declared.table.Turn.the-variants.{Keep}
 use Rattle.chip.specs.Table.{rowOf}
 use Rattle.chip.specs.Answers.{asNeeded, chipNumber}
 use Rattle.chip.specs.Line.{Driven, silent, drives, byRow, heard, heardRow, driven, driving, drivingAt, firstFrom, firstOf, countOf}
-use Rattle.chip.specs.Change.{changed, missingOf, turned}
+use Rattle.chip.specs.Change.{missingOf, turned}
 use Rattle.chip.specs.Outcome.{Outcome, outcomeOf, transacted}
 use Rattle.chip.proofs.Rows.{rows-ind}
 use Rattle.chip.proofs.Rules.{outcome-ind}
@@ -57,10 +56,10 @@ keeps f =
 -- a transaction in a cycle leaves the record and every byte of the array, and no bits are missing
 pub busy-stays : (d : Device) (array sent : List ℕ) (pulses : ℕ) (w : Bool) (response : List ℕ) → isBusy (d .mode) ≡ true
     → (transacted d array sent pulses w response .device ≡ d) × (transacted d array sent pulses w response .array ≡ array) × (transacted d array sent pulses w response .answer .missing ≡ 0)
-unfolding outcomeOf turned changed missingOf
+unfolding outcomeOf turned missingOf
 busy-stays d array sent pulses w response h =
     outcome-ind d array sent pulses w response (λ (o : Outcome). (o .device ≡ d) × (o .array ≡ array) × (o .answer .missing ≡ 0)) (λ a. (refl, refl, refl)) (λ a b. (refl, refl, refl))
-    (λ a t. let k = keeps (figuresOf (d .part)) (getD sent 0 0) (t .busy h) in (rw k, rw k (map-same array), rw k))
+    (λ a t. let k = keeps (figuresOf (d .part)) (getD sent 0 0) (t .busy h) in (rw k, refl, rw k))
 
 -- ---- the line
 

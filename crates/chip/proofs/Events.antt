@@ -1,19 +1,27 @@
 -- Laws of events and of lists of them: appended lists, what stays, what does not look at the array, and what stands in a response.
 -- Assumes nothing.
 use mathlib.Core.Path.{_≡_, refl, sym, ap, _∙_}
-use mathlib.Core.Bool.{Bool, true, false, _&&_}
+use mathlib.Core.Bool.{Bool, true, false, cond, _&&_}
 use mathlib.Core.List.{List, [], _∷_, _++_}
-use Prim.Native.Nat.{ℕ, suc, _+_, _≤_, _<_}
+use Prim.Native.Nat.{ℕ, zero, suc, _+_, _-_, _≤_, _<_}
 use native.Mathlib.Nat.{zero-add, add-assoc}
 use native.Mathlib.Omega.{arith}
 use borrow.Author.Tests.{eq-eqb, le-ltb, lt-ltb}
+use lib.Dec.{ltb}
 use lib.ListN.{length, replicate, length-replicate}
 use Rattle.slices.specs.Changed.{mapAt, window, put}
+use Rattle.slices.specs.Chosen.{onZero}
+use Rattle.slices.proofs.Choices.{zero-ind}
 use Rattle.slices.proofs.Maps.{map-blind}
 use Rattle.slices.proofs.Windows.{window-in}
 use Rattle.parts.specs.Parts.{figuresOf}
+use Rattle.device.specs.declared.Mode.{Mode}
+use Rattle.device.specs.declared.Mode.the-variants.{Standby, Busy, Deep}
 use Rattle.device.specs.declared.Device.{Device}
-use Rattle.device.specs.Device.{sound}
+use Rattle.device.specs.Chip.{chip}
+use Rattle.device.specs.Device.{sound, running}
+use Rattle.device.specs.Time.{afterCycle, finished, lost, waitedIn, waited, timeNumber, maskNumber, waitCall, powerUpCall, lossCall}
+use Rattle.device.proofs.Ends.{finished-length, lost-length, waited-length}
 use Rattle.chip.specs.declared.answers.Verdict.{Verdict}
 use Rattle.chip.specs.declared.answers.Verdict.the-variants.{Refused, Ignored, Executed}
 use Rattle.chip.specs.declared.Answer.{Answer}
@@ -21,11 +29,11 @@ use Rattle.chip.specs.Table.{addressOf, rowIn}
 use Rattle.chip.specs.Answers.{hostNumber, chipNumber, verdictOf}
 use Rattle.chip.specs.Line.{heardRow, lined, firstOf, countOf}
 use Rattle.chip.specs.Outcome.{outcomeOf, transacted}
-use Rattle.chip.specs.Events.{Chip, Good, Event, sends, waits, starts, every, Reply, sent, left, after, reply, run, missed, story}
+use Rattle.chip.specs.Events.{Chip, Good, Event, sends, waits, starts, loses, every, Reply, sent, left, after, reply, run, missed, story}
 use Rattle.chip.proofs.Lines.{span-is}
 use Rattle.chip.proofs.Verdicts.{Decision, refuses, ignores, executes, verdict-is, not-refused}
-use Rattle.chip.proofs.Rules.{array-length, response-length, stays-sound, make-stays}
-use Rattle.chip.proofs.Records.{wait-sound, power-up-sound, wait-rests, power-up-rests}
+use Rattle.chip.proofs.Rules.{array-stays, response-length, stays-sound, make-stays}
+use Rattle.chip.proofs.Records.{wait-sound, power-up-sound, loss-sound, wait-make, power-up-make, loss-make}
 
 -- ---- appended lists
 
@@ -62,24 +70,27 @@ run-keeps P step (e ∷ es) c p = run-keeps P step es (after e c) (step e c p)
 
 -- the array keeps its length
 pub after-length : (e : Event) (c : Chip) → length (after e c .array) ≡ length (c .array)
-unfolding sent
-after-length (sends bytes p w) c = array-length (c .device) (c .array) bytes p w (replicate (length bytes) 0)
-after-length (waits t) c = refl
-after-length starts c = refl
+unfolding sent waitCall powerUpCall lossCall
+after-length (sends bytes p w) c = ap length (array-stays (c .device) (c .array) bytes p w (replicate (length bytes) 0))
+after-length (waits t) c = zero-ind (λ (n : Chip). length (n .array) ≡ length (c .array)) (timeNumber (c .device) (length (c .array)) 0) (waited-length c t) refl
+after-length starts c = zero-ind (λ (n : Chip). length (n .array) ≡ length (c .array)) (timeNumber (c .device) (length (c .array)) 0) (finished-length c) refl
+after-length (loses mask told) c = zero-ind (λ (n : Chip). length (n .array) ≡ length (c .array)) (timeNumber (c .device) (length (c .array)) (maskNumber (length mask))) (lost-length c mask told) refl
 
 -- the record keeps its part
 pub after-part : (e : Event) (c : Chip) → after e c .device .part ≡ c .device .part
 unfolding sent
 after-part (sends bytes p w) c = make-stays (c .device) (c .array) bytes p w (replicate (length bytes) 0) .part
-after-part (waits t) c = wait-rests (c .device) t .make .part
-after-part starts c = power-up-rests (c .device) .make .part
+after-part (waits t) c = wait-make c t .part
+after-part starts c = power-up-make c .part
+after-part (loses mask told) c = loss-make c mask told .part
 
 -- a sound record stays sound
 pub after-sound : (e : Event) (c : Chip) → sound (c .device) ≡ true → sound (after e c .device) ≡ true
 unfolding sent
 after-sound (sends bytes p w) c s = stays-sound (c .device) (c .array) bytes p w (replicate (length bytes) 0) s
-after-sound (waits t) c s = wait-sound (c .device) t s
-after-sound starts c s = power-up-sound (c .device) s
+after-sound (waits t) c s = wait-sound c t s
+after-sound starts c s = power-up-sound c s
+after-sound (loses mask told) c s = loss-sound c mask told s
 
 pub after-good : (e : Event) (c : Chip) → Good c → Good (after e c)
 after-good e c g = record { sound = after-sound e c (g .sound); whole = after-length e c ∙ (g .whole ∙ ap (λ (p : ℕ). figuresOf p .bytes) (sym (after-part e c))) }
@@ -131,18 +142,46 @@ sent-alike a b k bytes p w =
     let r : List ℕ = replicate (length bytes) 0 in
     rw (k .device, k .long) (same-answer (b .device) (a .array) (b .array) bytes r r _, same-device (b .device) (a .array) (b .array) bytes r r _)
 
+-- what a number chooses of two pairs of chips with the same records
+zero-devices : (n : ℕ) (x y a b : Chip) → x .device ≡ y .device → a .device ≡ b .device → onZero n x a .device ≡ onZero n y b .device
+zero-devices zero x y a b e f = e
+zero-devices (suc n) x y a b e f = f
+
+waited-alike : (a b : Chip) → a .device ≡ b .device → (t : ℕ) → waited a t .device ≡ waited b t .device
+unfolding waited finished
+waited-alike a b e t = ap (λ (m : Mode). waitedIn m a t .device) (ap (λ (d : Device). d .mode) e) ∙ go (b .device .mode)
+  where
+    go : (m : Mode) → waitedIn m a t .device ≡ waitedIn m b t .device
+    go Standby = e
+    go (Busy left) = on (ltb t left)
+      where
+        on : (s : Bool) → cond s (chip (running (a .device) (left - t)) (a .array)) (finished a) .device ≡ cond s (chip (running (b .device) (left - t)) (b .array)) (finished b) .device
+        on true = ap (λ (d : Device). running d (left - t)) e
+        on false = ap (λ (d : Device). afterCycle d true) e
+    go Deep = e
+
+-- the number of a call of time or power, and the record that it leaves, do not look at the bytes either
+time-alike : (a b : Chip) → Alike a b → (n : ℕ) → timeNumber (a .device) (length (a .array)) n ≡ timeNumber (b .device) (length (b .array)) n
+time-alike a b k n = rw (k .device, k .long)
+
 pub after-alike : (e : Event) (a b : Chip) → Alike a b → Alike (after e a) (after e b)
+unfolding waitCall powerUpCall lossCall finished lost
 after-alike e a b k = record { device = devices e; long = after-length e a ∙ (k .long ∙ sym (after-length e b)) }
   where
     devices : (e : Event) → after e a .device ≡ after e b .device
     devices (sends bytes p w) = sent-alike a b k bytes p w .1
-    devices (waits t) = rw (k .device)
-    devices starts = rw (k .device)
+    devices (waits t) = rw (time-alike a b k 0) (zero-devices (timeNumber (b .device) (length (b .array)) 0) (waited a t) (waited b t) a b (waited-alike a b (k .device) t) (k .device))
+    devices starts = rw (time-alike a b k 0) (zero-devices (timeNumber (b .device) (length (b .array)) 0) (finished a) (finished b) a b (ap (λ (d : Device). afterCycle d true) (k .device)) (k .device))
+    devices (loses mask told) =
+        rw (time-alike a b k (maskNumber (length mask)))
+        (zero-devices (timeNumber (b .device) (length (b .array)) (maskNumber (length mask))) (lost a mask told) (lost b mask told) a b (ap (λ (d : Device). afterCycle d told) (k .device)) (k .device))
 
 pub reply-alike : (e : Event) (a b : Chip) → Alike a b → Same (reply e a .answer) (reply e b .answer)
+unfolding waitCall powerUpCall lossCall
 reply-alike (sends bytes p w) a b k = sent-alike a b k bytes p w .0
-reply-alike (waits t) a b k = rw (k .device) (record { number = refl; first = refl; count = refl })
-reply-alike starts a b k = rw (k .device) (record { number = refl; first = refl; count = refl })
+reply-alike (waits t) a b k = rw (k .device, k .long) (record { number = refl; first = refl; count = refl })
+reply-alike starts a b k = rw (k .device, k .long) (record { number = refl; first = refl; count = refl })
+reply-alike (loses mask told) a b k = rw (k .device, k .long) (record { number = refl; first = refl; count = refl })
 
 -- so in each place of two stories
 abbrev pub AllSame : List Reply → List Reply → Type 0

@@ -12,4 +12,5 @@ pub mod Missed
 pub mod Protection
 pub mod Limits
 pub mod Older
+pub mod Power
 pub mod Worked

@@ -19,6 +19,7 @@ use Rattle.slices.proofs.Sums.{sum-none, sum-count}
 use Rattle.parts.specs.declared.Figures.{Figures}
 use Rattle.parts.specs.Parts.{figuresOf}
 use Rattle.device.specs.declared.Device.{Device}
+use Rattle.device.specs.Cycles.{usesOf}
 use Rattle.device.specs.Device.{isBusy, isDeep, statusByte}
 use Rattle.device.specs.declared.cycle.Kind.{Kind}
 use Rattle.chip.specs.declared.table.Turn.{Turn}
@@ -28,7 +29,7 @@ use Rattle.chip.specs.declared.table.Row.{Row}
 use Rattle.chip.specs.declared.line.Span.{Span}
 use Rattle.chip.specs.declared.answers.Verdict.{Verdict}
 use Rattle.chip.specs.Table.{longest, order, write, unknown, rowOf, addressOf, rowIn, onStart}
-use Rattle.chip.specs.Answers.{hostNumber, isSettings, guardedIn, asNeeded, chipNumber}
+use Rattle.chip.specs.Answers.{hostNumber, guardedIn, asNeeded, chipNumber}
 use Rattle.chip.proofs.Rows.{rows-ind}
 use Rattle.chip.specs.Line.{Driven, silent, drives, onLine, kth, byRow, heard, heardRow, driven, lined, drivingAt, firstFrom, firstOf, countOf, noSpan, fromOn, spanOf}
 use Rattle.chip.specs.Outcome.{Outcome, outcomeOf, transacted}
@@ -268,7 +269,7 @@ reading-taken d r n pulses w at h e lt le =
       e .pulsed,
       e .unlatched,
       e .startless (λ k. guardedIn k (figuresOf (d .part)) d at) false,
-      e .startless isSettings false,
+      e .startless (λ k. usesOf k .settings) false,
     )
   where
     allowed : (a b : Bool) → not a || b ≡ true → a && not b ≡ false

@@ -1,4 +1,4 @@
--- The bits missing: an executed program alone has any; and of transactions with no wait and no power-up between them one at the most, since it starts a cycle.
+-- The bits missing: an executed program alone has any; and of transactions with no wait, no power-up and no power loss between them one at the most, since it starts a cycle.
 -- Assumes nothing.
 use mathlib.Core.Path.{_≡_, refl, sym, ap, _∙_}
 use mathlib.Core.Bool.{Bool, true, false, false≢true}
@@ -16,14 +16,15 @@ use Rattle.memory.proofs.Enough.{none-missing}
 use Rattle.parts.specs.declared.Figures.{Figures}
 use Rattle.parts.specs.Parts.{figuresOf}
 use Rattle.device.specs.declared.Device.{Device}
-use Rattle.device.specs.Device.{isBusy, moded, running}
-use Rattle.device.specs.Cycles.{touched}
+use Rattle.device.specs.Device.{isBusy, moded, remembering, running, started}
+use Rattle.device.specs.Cycles.{pageCycle, touched}
+use Rattle.device.specs.Time.{finished}
 use Rattle.chip.specs.declared.table.Turn.{Turn}
 use Rattle.chip.specs.declared.table.Turn.the-variants.{Keep, Enable, Disable, Start, Sleep, Wake}
 use Rattle.chip.specs.Table.{rowOf, rowIn, addressOf}
-use Rattle.chip.specs.Change.{cycleOf, changed, missingOf, turned}
+use Rattle.chip.specs.Change.{cycleOf, missingOf, turned}
 use Rattle.chip.specs.Outcome.{Outcome, outcomeOf, transacted}
-use Rattle.chip.specs.Events.{Chip, Event, sends, waits, starts, every, sent, after, missed}
+use Rattle.chip.specs.Events.{Chip, Event, sends, waits, starts, loses, every, sent, left, after, missed}
 use Rattle.chip.proofs.Rows.{rows-ind}
 use Rattle.chip.proofs.Rules.{Bytes, outcome-ind, answer-few}
 use Rattle.chip.proofs.Busy.{busy-stays}
@@ -56,16 +57,16 @@ module _ (d : Device) (array bytes : List ℕ) (pulses : ℕ) (w : Bool) (respon
       outcome-ind d array bytes pulses w response (λ (o : Outcome). o .answer .number ≡ 0 → o .answer .missing ≡ missing at (drop 4 bytes) (pageOf at array)) (λ a z. absurd (a z)) (λ h b z. absurd (b z))
       (λ h t z. rw c)
 
-  -- the array after an executed program
-  program-array : getD bytes 0 0 ≡ 0x02 → out .answer .number ≡ 0 → out .array ≡ mapAt (programmed at (filled blank at (drop 4 bytes))) array
-  unfolding outcomeOf changed cycleOf touched rowOf
+  -- the array once the cycle of an executed program is completed
+  program-array : getD bytes 0 0 ≡ 0x02 → out .answer .number ≡ 0 → finished (left out) .array ≡ mapAt (programmed at (filled blank at (drop 4 bytes))) array
+  unfolding outcomeOf turned finished started running moded remembering cycleOf pageCycle touched rowOf
   program-array c =
-      outcome-ind d array bytes pulses w response (λ (o : Outcome). o .answer .number ≡ 0 → o .array ≡ mapAt (programmed at (filled blank at (drop 4 bytes))) array) (λ a z. absurd (a z)) (λ h b z. absurd (b z))
+      outcome-ind d array bytes pulses w response (λ (o : Outcome). o .answer .number ≡ 0 → finished (left o) .array ≡ mapAt (programmed at (filled blank at (drop 4 bytes))) array) (λ a z. absurd (a z)) (λ h b z. absurd (b z))
       (λ h t z. rw c)
 
-  -- every byte that the data reached ends as the last data byte that went to its slot
+  -- every byte that the data reached ends, with the cycle, as the last data byte that went to its slot
   abbrev pub AsSent : Type 0
-  AsSent = (i : ℕ) → i < length array → i / 256 ≡ at / 256 → reached at (drop 4 bytes) (i % 256) ≡ true → getD (out .array) i 0 ≡ landed at (drop 4 bytes) (i % 256) 255
+  AsSent = (i : ℕ) → i < length array → i / 256 ≡ at / 256 → reached at (drop 4 bytes) (i % 256) ≡ true → getD (finished (left out) .array) i 0 ≡ landed at (drop 4 bytes) (i % 256) 255
 
   -- an executed program has no bits missing exactly if that is so
   pub program-enough : Bytes array → Bytes bytes → getD bytes 0 0 ≡ 0x02 → out .answer .number ≡ 0 → (out .answer .missing ≡ 0 → AsSent) × (AsSent → out .answer .missing ≡ 0)
@@ -77,16 +78,16 @@ module _ (d : Device) (array bytes : List ℕ) (pulses : ℕ) (w : Bool) (respon
       data-bytes : (i : ℕ) → i < length (drop 4 bytes) → getD (drop 4 bytes) i 0 < 256
       data-bytes i l = let e = length-drop 4 bytes in rw (getD-drop 4 bytes i 0) (s (4 + i) (omega arith))
 
-      ends : (i : ℕ) → i < length array → getD (out .array) i 0 ≡ programmed at (filled blank at (drop 4 bytes)) i (getD array i 0)
+      ends : (i : ℕ) → i < length array → getD (finished (left out) .array) i 0 ≡ programmed at (filled blank at (drop 4 bytes)) i (getD array i 0)
       ends i l = ap (λ (xs : List ℕ). getD xs i 0) (program-array c z) ∙ getD-map (programmed at (filled blank at (drop 4 bytes))) array i 0 l
 
   -- where bits are missing a cycle runs afterwards
   missing-runs : (out .answer .missing ≡ 0) ⊎ (isBusy (out .device .mode) ≡ true)
-  unfolding outcomeOf missingOf turned running moded
+  unfolding outcomeOf missingOf turned started running moded
   missing-runs =
       outcome-ind d array bytes pulses w response (λ (o : Outcome). (o .answer .missing ≡ 0) ⊎ (isBusy (o .device .mode) ≡ true)) (λ a. inl refl) (λ h b. inl refl) (λ h t. go (rowIn d bytes .turn))
     where
-      go : (t : Turn) → (missingOf t at bytes array ≡ 0) ⊎ (isBusy (turned t (figuresOf (d .part)) d (getD bytes 1 0) .mode) ≡ true)
+      go : (t : Turn) → (missingOf t at bytes array ≡ 0) ⊎ (isBusy (turned t (figuresOf (d .part)) d at bytes .mode) ≡ true)
       go Keep = inl refl
       go Enable = inl refl
       go Disable = inl refl
@@ -96,11 +97,12 @@ module _ (d : Device) (array bytes : List ℕ) (pulses : ℕ) (w : Bool) (respon
 
 -- ---- over a list
 
--- a transaction: no wait, no power-up
+-- a transaction: no wait, no power-up, no power loss
 abbrev pub isSent : Event → Bool
 isSent (sends bytes p w) = true
 isSent (waits t) = false
 isSent starts = false
+isSent (loses mask told) = false
 
 -- in a cycle none
 pub busy-misses : (es : List Event) (c : Chip) → every isSent es ≡ true → isBusy (c .device .mode) ≡ true → missed es c ≡ 0
@@ -112,6 +114,7 @@ busy-misses (sends bytes p w ∷ es) c s h =
     rw (e .2, rest)
 busy-misses (waits t ∷ es) c s h = absurd (false≢true s)
 busy-misses (starts ∷ es) c s h = absurd (false≢true s)
+busy-misses (loses mask told ∷ es) c s h = absurd (false≢true s)
 
 -- else at most those of one program: it starts a cycle, in which no other one is executed
 pub missed-few : (es : List Event) (c : Chip) → every isSent es ≡ true → missed es c ≤ mostMissing
@@ -126,3 +129,4 @@ missed-few (sends bytes p w ∷ es) c s =
     go (inr y) h k l = let e = k y in omega arith
 missed-few (waits t ∷ es) c s = absurd (false≢true s)
 missed-few (starts ∷ es) c s = absurd (false≢true s)
+missed-few (loses mask told ∷ es) c s = absurd (false≢true s)

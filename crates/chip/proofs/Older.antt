@@ -1,7 +1,7 @@
 -- The older M25P10-A, part 5, does what part 1 does, but for Read Identification.
 -- Assumes nothing.
 use mathlib.Core.Path.{_≡_, refl, sym, ap, ap₂, _∙_}
-use mathlib.Core.Bool.{Bool, true, false, cond, not, false≢true}
+use mathlib.Core.Bool.{Bool, true, false, cond, not, _&&_, false≢true}
 use mathlib.Core.List.{List, [], _∷_}
 use Prim.Native.Nat.{ℕ, zero, suc, _-_}
 use native.Mathlib.Omega.{arith}
@@ -18,9 +18,11 @@ use Rattle.device.specs.declared.Mode.the-variants.{Standby, Busy, Deep}
 use Rattle.device.specs.declared.Device.{Device}
 use Rattle.device.specs.declared.Checked.{Checked}
 use Rattle.device.specs.declared.cycle.Kind.{Kind}
-use Rattle.device.specs.declared.cycle.Kind.the-variants.{Settings, Page, Sector, All}
-use Rattle.device.specs.Cycles.{touchedIn, touched, durationOf}
-use Rattle.device.specs.Device.{sound, statusByte, moded, settled, running, waitedIn, waited, poweredUp, soundAnswer, waitCall, powerUpCall, delivered, zeroRecord}
+use Rattle.device.specs.declared.cycle.Kind.the-variants.{Idle, Page, Sector, All, Settings}
+use Rattle.device.specs.Chip.{chip}
+use Rattle.device.specs.Cycles.{usesOf, cycleSound, touchedIn, touched, cutIn, cut, durationOf}
+use Rattle.device.specs.Device.{sound, statusByte, moded, settled, remembering, running, started, ended, delivered, zeroRecord}
+use Rattle.device.specs.Time.{afterCycle, finished, lost, waitedIn, waited, timeNumber, maskNumber, Timed, timed, waitCall, powerUpCall, lossCall}
 use Rattle.device.specs.Device as record-is
 use Rattle.device.proofs.Outcomes.{same-checked}
 use Rattle.chip.specs.declared.table.Turn.{Turn}
@@ -31,10 +33,10 @@ use Rattle.chip.specs.declared.answers.Verdict.the-variants.{Refused, Ig
 use Rattle.chip.specs.Table.{onlyIf, onStart, rowOf, rowIn, addressOf}
 use Rattle.chip.specs.Answers.{deliveryAnswer, hostNumber, inProtected, guardedIn, guarded, chipNumber, decided, verdictOf}
 use Rattle.chip.specs.Line.{silent, kth, byRow, heard, heardRow, driven, driving, onLine, lined, drivingAt, firstFrom, firstOf, countOf}
-use Rattle.chip.specs.Change.{cycleOf, changed, missingOf, asItWas, bpIn, settledBy, turned}
+use Rattle.chip.specs.Change.{cycleOf, missingOf, bpIn, turned}
 use Rattle.chip.specs.Outcome.{Outcome, bare, outcomeOf, transacted, Delivered}
-use Rattle.chip.specs.Events.{Chip, Event, sends, waits, starts, every, Reply, sent, after, reply, run, story}
-use Rattle.chip.specs.Older.{asPart, outcomeAs, checkedAs, deliveredAs, chipAs, notRdid, without9F, DoesAs}
+use Rattle.chip.specs.Events.{Chip, Event, sends, waits, starts, loses, every, Reply, sent, after, reply, run, story}
+use Rattle.chip.specs.Older.{asPart, outcomeAs, deliveredAs, chipAs, timedAs, notRdid, without9F, DoesAs}
 use Rattle.chip.proofs.Rows.{rows-ind}
 use Rattle.chip.proofs.Events.{after-part}
 
@@ -64,45 +66,58 @@ line-stays f =
     (λ e h s array at k. refl)
     (λ code h s array at k. refl)
 
--- each cycle does the same to a byte
+-- each cycle does the same to a byte, completed or cut
 touched-stays : (k : Kind) (f : Figures) (at : ℕ) (slots : List ℕ) (i x : ℕ) → touchedIn k (unidentified f) at slots i x ≡ touchedIn k f at slots i x
-touched-stays Settings f at slots i x = refl
+touched-stays Idle f at slots i x = refl
 touched-stays Page f at slots i x = refl
 touched-stays Sector f at slots i x = refl
 touched-stays All f at slots i x = refl
+touched-stays Settings f at slots i x = refl
 
-changed-stays : (t : Turn) (f : Figures) (at : ℕ) (sent : List ℕ) → changed t (unidentified f) at sent ≡ changed t f at sent
-unfolding changed touched
-changed-stays t f at sent = λ j. onStart t (λ k i x. touched-stays (cycleOf k at sent .kind) f (cycleOf k at sent .address) (cycleOf k at sent .slots) i x j) asItWas
+cut-stays : (k : Kind) (f : Figures) (at : ℕ) (slots mask : List ℕ) (i x : ℕ) → cutIn k (unidentified f) at slots mask i x ≡ cutIn k f at slots mask i x
+cut-stays Idle f at slots mask i x = refl
+cut-stays Page f at slots mask i x = refl
+cut-stays Sector f at slots mask i x = refl
+cut-stays All f at slots mask i x = refl
+cut-stays Settings f at slots mask i x = refl
 
 -- the same guards it, whatever the record's part
 guard-stays : (k : Kind) (f : Figures) (p q : ℕ) (d : Device) (at : ℕ) → guardedIn k (unidentified f) (asPart p d) at ≡ guardedIn k f (asPart q d) at
 unfolding inProtected
-guard-stays Settings f p q d at = refl
+guard-stays Idle f p q d at = refl
 guard-stays Page f p q d at = refl
 guard-stays Sector f p q d at = refl
 guard-stays All f p q d at = refl
+guard-stays Settings f p q d at = refl
 
 guarded-stays : (t : Turn) (f : Figures) (p q : ℕ) (d : Device) (at : ℕ) → guarded t (unidentified f) (asPart p d) at ≡ guarded t f (asPart q d) at
 guarded-stays t f p q d at = λ j. onStart t (λ k. guard-stays k f p q d at j) false
 
--- the same becomes of the record
-started-stays : (k : Kind) (f : Figures) (p q : ℕ) (d : Device) (b : ℕ)
-    → running (settledBy k (unidentified f) (asPart p d) b) (durationOf k (asPart p d)) ≡ asPart p (running (settledBy k f (asPart q d) b) (durationOf k (asPart q d)))
-unfolding running moded settled bpIn
-started-stays Settings f p q d b = refl
-started-stays Page f p q d b = refl
-started-stays Sector f p q d b = refl
-started-stays All f p q d b = refl
+-- the same cycle is started
+cycle-stays : (k : Kind) (f : Figures) (at : ℕ) (sent : List ℕ) → cycleOf k (unidentified f) at sent ≡ cycleOf k f at sent
+unfolding cycleOf bpIn
+cycle-stays Idle f at sent = refl
+cycle-stays Page f at sent = refl
+cycle-stays Sector f at sent = refl
+cycle-stays All f at sent = refl
+cycle-stays Settings f at sent = refl
 
-turned-stays : (t : Turn) (f : Figures) (p q : ℕ) (d : Device) (b : ℕ) → turned t (unidentified f) (asPart p d) b ≡ asPart p (turned t f (asPart q d) b)
-unfolding turned moded record-is.latched
-turned-stays Keep f p q d b = refl
-turned-stays Enable f p q d b = refl
-turned-stays Disable f p q d b = refl
-turned-stays (Start k) f p q d b = started-stays k f p q d b
-turned-stays Sleep f p q d b = refl
-turned-stays Wake f p q d b = refl
+duration-stays : (k : Kind) (p q : ℕ) (d : Device) → durationOf k (asPart p d) ≡ durationOf k (asPart q d)
+duration-stays Idle p q d = refl
+duration-stays Page p q d = refl
+duration-stays Sector p q d = refl
+duration-stays All p q d = refl
+duration-stays Settings p q d = refl
+
+-- the same becomes of the record
+turned-stays : (t : Turn) (f : Figures) (p q : ℕ) (d : Device) (at : ℕ) (sent : List ℕ) → turned t (unidentified f) (asPart p d) at sent ≡ asPart p (turned t f (asPart q d) at sent)
+unfolding turned started running moded remembering record-is.latched
+turned-stays Keep f p q d at sent = refl
+turned-stays Enable f p q d at sent = refl
+turned-stays Disable f p q d at sent = refl
+turned-stays (Start k) f p q d at sent = λ j. started (asPart p d) (cycle-stays k f at sent j) (duration-stays k p q d j)
+turned-stays Sleep f p q d at sent = refl
+turned-stays Wake f p q d at sent = refl
 
 -- ---- the code
 
@@ -132,7 +147,7 @@ row-same d before h = row-stays (figuresOf 1) (getD before 0 0) h
 
 verdict-same : (d : Device) (array : ℕ) (sent : List ℕ) (pulses : ℕ) (w : Bool) (response : ℕ) → notRdid sent ≡ true
     → verdictOf (asPart 5 d) array sent pulses w response ≡ verdictOf (asPart 1 d) array sent pulses w response
-unfolding verdictOf hostNumber sound addressOf figuresOf
+unfolding verdictOf hostNumber sound cycleSound addressOf figuresOf
 verdict-same d array sent pulses w response h =
     let at = addressOf (figuresOf 1) sent in
     let host = hostNumber (asPart 1 d) array (length sent) pulses response in
@@ -174,8 +189,7 @@ outcome-same (Ignored k) d array sent response h = refl
 outcome-same Executed d array sent response h =
     let f = figuresOf 1 in
     let row = row-same d sent (coded sent h) in
-    let next = ap (λ (r : Row). turned (r .turn) (figuresOf 5) (asPart 5 d) (getD sent 1 0)) row ∙ turned-stays (rowIn (asPart 1 d) sent .turn) f 5 1 d (getD sent 1 0) in
-    let change = ap (λ (r : Row). changed (r .turn) (figuresOf 5) (addressOf f sent) sent) row ∙ changed-stays (rowIn (asPart 1 d) sent .turn) f (addressOf f sent) sent in
+    let next = ap (λ (r : Row). turned (r .turn) (figuresOf 5) (asPart 5 d) (addressOf f sent) sent) row ∙ turned-stays (rowIn (asPart 1 d) sent .turn) f 5 1 d (addressOf f sent) sent in
     λ j.
     record {
       answer =
@@ -186,7 +200,7 @@ outcome-same Executed d array sent response h =
             missing = missingOf (row j .turn) (addressOf f sent) sent array;
           };
       device = next j;
-      array = mapAt (change j) array;
+      array = array;
       response = mapAt (lined-same d array sent h j) response;
     }
 
@@ -203,33 +217,62 @@ older-transacts d array sent pulses w response p h =
     ∙ (ap (λ (v : Verdict). outcomeOf v (asPart 5 d) array sent response) (verdict-same d (length array) sent pulses w (length response) h)
     ∙ outcome-same (verdictOf (asPart 1 d) (length array) sent pulses w (length response)) d array sent response h)
 
--- ---- waiting, power-up and delivery
+-- ---- waiting, power-up, power loss and delivery
 
-zero-as : (k : ℕ) (x y : Device) → onZero k (asPart 5 x) (asPart 5 y) ≡ asPart 5 (onZero k x y)
+zero-as : (k : ℕ) (x y : Chip) → onZero k (chipAs 5 x) (chipAs 5 y) ≡ chipAs 5 (onZero k x y)
 zero-as zero x y = refl
 zero-as (suc k) x y = refl
 
-waited-same : (m : Mode) (d : Device) (t : ℕ) → waitedIn m (asPart 5 d) t ≡ asPart 5 (waitedIn m (asPart 1 d) t)
-unfolding running moded
-waited-same Standby d t = refl
-waited-same (Busy left) d t = go (ltb t left)
+-- the end of a cycle
+over-same : (d : Device) (told : Bool) → afterCycle (asPart 5 d) told ≡ asPart 5 (afterCycle (asPart 1 d) told)
+unfolding afterCycle ended moded remembering settled
+over-same d told = go (usesOf (d .cycle .kind) .settings && told)
   where
-    go : (b : Bool) → cond b (running (asPart 5 d) (left - t)) (moded (asPart 5 d) false Standby) ≡ asPart 5 (cond b (running (asPart 1 d) (left - t)) (moded (asPart 1 d) false Standby))
+    go : (b : Bool) → ended (cond b (settled (asPart 5 d) (d .cycle .srwd) (d .cycle .bp)) (asPart 5 d)) ≡ asPart 5 (ended (cond b (settled (asPart 1 d) (d .cycle .srwd) (d .cycle .bp)) (asPart 1 d)))
     go true = refl
     go false = refl
-waited-same Deep d t = refl
 
-older-waits : (d : Device) (t : ℕ) → d .part ≡ 5 → waitCall d t ≡ checkedAs 5 (waitCall (asPart 1 d) t)
-unfolding waitCall waited soundAnswer sound figuresOf
-older-waits d t p =
-    ap (λ (e : Device). waitCall e t) (renamed d p)
-    ∙ (λ j. record { answer = soundAnswer (asPart 1 d); device = (ap (λ (e : Device). onZero (soundAnswer (asPart 1 d)) e (asPart 5 d)) (waited-same (d .mode) d t) ∙ zero-as (soundAnswer (asPart 1 d)) (waitedIn (d .mode) (asPart 1 d) t) (asPart 1 d)) j })
+finished-same : (c : Chip) → finished (chipAs 5 c) ≡ chipAs 5 (finished (chipAs 1 c))
+unfolding finished touched figuresOf
+finished-same c = λ j. chip (over-same (c .device) true j) (mapAt (λ i x. touched-stays (c .device .cycle .kind) (figuresOf 1) (c .device .cycle .address) (c .device .cycle .slots) i x j) (c .array))
 
-older-powers-up : (d : Device) → d .part ≡ 5 → powerUpCall d ≡ checkedAs 5 (powerUpCall (asPart 1 d))
-unfolding powerUpCall poweredUp moded soundAnswer sound figuresOf
-older-powers-up d p =
-    ap powerUpCall (renamed d p)
-    ∙ (λ j. record { answer = soundAnswer (asPart 1 d); device = zero-as (soundAnswer (asPart 1 d)) (poweredUp (asPart 1 d)) (asPart 1 d) j })
+lost-same : (c : Chip) (mask : List ℕ) (told : Bool) → lost (chipAs 5 c) mask told ≡ chipAs 5 (lost (chipAs 1 c) mask told)
+unfolding lost cut figuresOf
+lost-same c mask told = λ j. chip (over-same (c .device) told j) (mapAt (λ i x. cut-stays (c .device .cycle .kind) (figuresOf 1) (c .device .cycle .address) (c .device .cycle .slots) mask i x j) (c .array))
+
+waited-same : (m : Mode) (c : Chip) (t : ℕ) → waitedIn m (chipAs 5 c) t ≡ chipAs 5 (waitedIn m (chipAs 1 c) t)
+unfolding running moded
+waited-same Standby c t = refl
+waited-same (Busy left) c t = go (ltb t left)
+  where
+    go : (b : Bool) → cond b (chip (running (asPart 5 (c .device)) (left - t)) (c .array)) (finished (chipAs 5 c)) ≡ chipAs 5 (cond b (chip (running (asPart 1 (c .device)) (left - t)) (c .array)) (finished (chipAs 1 c)))
+    go true = refl
+    go false = finished-same c
+waited-same Deep c t = refl
+
+-- a call whose two chips do the same
+timed-same : (k : ℕ) (x y c : Chip) → x ≡ chipAs 5 y → timed k x (chipAs 5 c) ≡ timedAs 5 (timed k y (chipAs 1 c))
+timed-same k x y c e = λ j. record { answer = k; chip = (ap (λ (n : Chip). onZero k n (chipAs 5 c)) e ∙ zero-as k y (chipAs 1 c)) j }
+
+-- a chip of part 5
+renamed-chip : (c : Chip) → c .device .part ≡ 5 → c ≡ chipAs 5 c
+renamed-chip c p = λ j. chipAs (p j) c
+
+module _ (c : Chip) (p : c .device .part ≡ 5) where
+  abbrev one : Chip
+  one = chipAs 1 c
+
+  older-waits : (t : ℕ) → waitCall c t ≡ timedAs 5 (waitCall one t)
+  unfolding waitCall waited timeNumber sound cycleSound figuresOf
+  older-waits t = ap (λ (e : Chip). waitCall e t) (renamed-chip c p) ∙ timed-same (timeNumber (one .device) (length (c .array)) 0) (waited (chipAs 5 c) t) (waited one t) c (waited-same (c .device .mode) c t)
+
+  older-powers-up : powerUpCall c ≡ timedAs 5 (powerUpCall one)
+  unfolding powerUpCall timeNumber sound cycleSound figuresOf
+  older-powers-up = ap powerUpCall (renamed-chip c p) ∙ timed-same (timeNumber (one .device) (length (c .array)) 0) (finished (chipAs 5 c)) (finished one) c (finished-same c)
+
+  older-loses : (mask : List ℕ) (told : Bool) → lossCall c mask told ≡ timedAs 5 (lossCall one mask told)
+  unfolding lossCall timeNumber sound cycleSound figuresOf
+  older-loses mask told = ap (λ (e : Chip). lossCall e mask told) (renamed-chip c p) ∙ timed-same (timeNumber (one .device) (length (c .array)) (maskNumber (length mask))) (lost (chipAs 5 c) mask told) (lost one mask told) c (lost-same c mask told)
 
 -- whatever the two calls hand back
 older-delivers : {array : List ℕ} {program sector bulk status : ℕ} {r s : Checked} {array′ array″ : List ℕ}
@@ -247,14 +290,16 @@ older-delivers {array} {program} {sector} {bulk} {status} p q =
 after-same : (e : Event) (c : Chip) → without9F e ≡ true → after e (chipAs 5 c) ≡ chipAs 5 (after e (chipAs 1 c))
 unfolding sent
 after-same (sends bytes p w) c h = ap (λ (o : Outcome). record { device = o .device; array = o .array }) (older-transacts (asPart 5 (c .device)) (c .array) bytes p w (replicate (length bytes) 0) refl h)
-after-same (waits t) c h = ap (λ (r : Checked). record { device = r .device; array = c .array }) (older-waits (asPart 5 (c .device)) t refl)
-after-same starts c h = ap (λ (r : Checked). record { device = r .device; array = c .array }) (older-powers-up (asPart 5 (c .device)) refl)
+after-same (waits t) c h = ap (λ (o : Timed). o .chip) (older-waits (chipAs 5 c) refl t)
+after-same starts c h = ap (λ (o : Timed). o .chip) (older-powers-up (chipAs 5 c) refl)
+after-same (loses mask told) c h = ap (λ (o : Timed). o .chip) (older-loses (chipAs 5 c) refl mask told)
 
 reply-same : (e : Event) (c : Chip) → without9F e ≡ true → reply e (chipAs 5 c) ≡ reply e (chipAs 1 c)
 unfolding sent
 reply-same (sends bytes p w) c h = ap (λ (o : Outcome). record { answer = o .answer; line = o .response }) (older-transacts (asPart 5 (c .device)) (c .array) bytes p w (replicate (length bytes) 0) refl h)
-reply-same (waits t) c h = ap (λ (r : Checked). record { answer = bare (r .answer); line = [] }) (older-waits (asPart 5 (c .device)) t refl)
-reply-same starts c h = ap (λ (r : Checked). record { answer = bare (r .answer); line = [] }) (older-powers-up (asPart 5 (c .device)) refl)
+reply-same (waits t) c h = ap (λ (o : Timed). record { answer = bare (o .answer); line = [] }) (older-waits (chipAs 5 c) refl t)
+reply-same starts c h = ap (λ (o : Timed). record { answer = bare (o .answer); line = [] }) (older-powers-up (chipAs 5 c) refl)
+reply-same (loses mask told) c h = ap (λ (o : Timed). record { answer = bare (o .answer); line = [] }) (older-loses (chipAs 5 c) refl mask told)
 
 -- part 1 stays part 1
 still-one : (e : Event) (c : Chip) → chipAs 1 (after e (chipAs 1 c)) ≡ after e (chipAs 1 c)
@@ -276,12 +321,12 @@ story-same (e ∷ es) c h =
 -- a whole life without 9F: the caller sees the same, and the chip ends as the same
 older-lives : (es : List Event) (c : Chip) → c .device .part ≡ 5 → every without9F es ≡ true → (story es c ≡ story es (chipAs 1 c)) × (run es c ≡ chipAs 5 (run es (chipAs 1 c)))
 older-lives es c p h =
-    let renamed-chip : c ≡ chipAs 5 c = λ j. chipAs (p j) c in
-    (ap (story es) renamed-chip ∙ story-same es c h, ap (run es) renamed-chip ∙ run-same es c h)
+    let e = renamed-chip c p in
+    (ap (story es) e ∙ story-same es c h, ap (run es) e ∙ run-same es c h)
 
 -- part 5 does what part 1 does, but for 9F
 pub older : DoesAs 5 1
-older = record { transacts = older-transacts; waits = older-waits; powers-up = older-powers-up; delivers = older-delivers; lives = older-lives }
+older = record { transacts = older-transacts; waits = λ c t p. older-waits c p t; powers-up = older-powers-up; loses = λ c mask told p. older-loses c p mask told; delivers = older-delivers; lives = older-lives }
 
 -- and 9F gets 14 there, in every mode, with whatever comes behind it, where the host side does not refuse
 pub older-9F : (d : Device) (array : ℕ) (rest : List ℕ) (pulses : ℕ) (w : Bool) (response : ℕ) → d .part ≡ 5 → hostNumber d array (length (0x9F ∷ rest)) pulses response ≡ 0

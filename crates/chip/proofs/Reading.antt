@@ -9,7 +9,7 @@ use native.Mathlib.Omega.{arith}
 use borrow.Author.Tests.{ne-eqb, le-leb, lt-ltb}
 use lib.ListN.{length, getD, take, drop, length-take, length-drop}
 use lib.Seq.{ext-getD, getD-take, getD-drop}
-use Rattle.slices.proofs.Maps.{length-map, getD-map, map-same, getD-any}
+use Rattle.slices.proofs.Maps.{length-map, getD-map, getD-any}
 use Rattle.parts.specs.Parts.{figuresOf}
 use Rattle.device.specs.declared.Mode.the-variants.{Standby}
 use Rattle.device.specs.declared.Device.{Device}
@@ -19,7 +19,7 @@ use Rattle.chip.specs.declared.answers.Verdict.the-variants.{Executed}
 use Rattle.chip.specs.Table.{reading, rowOf, addressOf, rowIn}
 use Rattle.chip.specs.Answers.{chipNumber, asNeeded, decided, verdictOf}
 use Rattle.chip.specs.Line.{heard, heardRow, lined}
-use Rattle.chip.specs.Change.{changed, turned}
+use Rattle.chip.specs.Change.{turned}
 use Rattle.chip.specs.Outcome.{Outcome, outcomeOf, transacted}
 use Rattle.chip.specs.Events.{Chip, Good}
 use Rattle.chip.proofs.Lines.{driven-from}
@@ -78,8 +78,8 @@ module _ (c : Chip) (g : Good c) (rests : c .device .mode ≡ Standby) (sent : L
 
   -- the array stays
   pub read-array : out .array ≡ xs
-  unfolding transacted outcomeOf changed
-  read-array = rw (verdict, row-is) (map-same xs)
+  unfolding transacted outcomeOf
+  read-array = rw verdict
 
   heard-is : heardRow d sent ≡ reading from Array from Keep
   unfolding heardRow heard

@@ -1,48 +1,60 @@
--- What instructions, waiting and power-up do to a record: a sound one stays sound, and who keeps settings, part and durations.
+-- What instructions, waiting, power-up and power loss do to a record: a sound one stays sound, and who keeps settings, part and durations.
 -- Assumes nothing.
 use mathlib.Core.Path.{_≡_, refl, sym, _∙_}
-use mathlib.Core.Bool.{Bool, true, false}
-use Prim.Native.Nat.{ℕ, _-_, _/_, _%_}
+use mathlib.Core.Bool.{Bool, true, false, cond, _&&_, false≢true}
+use mathlib.Core.Logic.{_⊎_, inl, inr}
+use mathlib.Core.List.{List}
+use Prim.Native.Nat.{ℕ, _+_, _*_, _-_, _/_, _%_, _<_}
+use native.Mathlib.Nat.{mod-lt}
 use native.Mathlib.Omega.{arith}
 use borrow.Author.Tests.{le-leb}
 use lib.Dec.{leb, ltb}
+use lib.ListN.{length, getD, drop, length-replicate}
+use Rattle.memory.specs.Memory.{blank, filled}
+use Rattle.memory.proofs.Laws.{filled-length}
 use Rattle.parts.specs.declared.Figures.{Figures}
 use Rattle.parts.specs.Parts.{figuresOf}
-use Rattle.parts.proofs.Laws.{figures-ind}
+use Rattle.parts.proofs.Laws.{figures-ind, sane}
 use Rattle.slices.proofs.Choices.{cond-ind, zero-ind}
 use Rattle.device.specs.declared.Mode.{Mode}
 use Rattle.device.specs.declared.Mode.the-variants.{Standby, Busy, Deep}
 use Rattle.device.specs.declared.Device.{Device}
 use Rattle.device.specs.declared.cycle.Kind.{Kind}
-use Rattle.device.specs.declared.cycle.Kind.the-variants.{Settings, Page, Sector, All}
-use Rattle.device.specs.Cycles.{durationOf}
-use Rattle.device.specs.Device.{isBusy, moded, settled, running, latchAt, rangedOf, sound, waitedIn, waited, poweredUp, soundAnswer, waitCall, powerUpCall}
+use Rattle.device.specs.declared.cycle.Kind.the-variants.{Idle, Page, Sector, All, Settings}
+use Rattle.device.specs.declared.cycle.Cycle.{Cycle}
+use Rattle.device.specs.Chip.{Chip}
+use Rattle.device.specs.Cycles.{usesOf, pageCycle, sectorCycle, allCycle, cycleSound, durationOf}
+use Rattle.device.specs.Device.{isBusy, moded, settled, remembering, running, started, ended, latchAt, rangedOf, sound}
 use Rattle.device.specs.Device as record-is
-use Rattle.device.proofs.Sound.{sound-has, standby-sound, deep-sound, latched-sound, settled-sound, running-sound, waited-sound, powered-sound}
+use Rattle.device.specs.Time.{afterCycle, finished, lost, waitedIn, waited, timeNumber, maskNumber, waitCall, powerUpCall, lossCall}
+use Rattle.device.proofs.Sound.{sound-has, page-sound, sector-sound, all-sound, settings-sound, moded-sound, latched-sound, started-sound, waited-sound, finished-sound, lost-sound}
 use Rattle.chip.specs.declared.table.Turn.{Turn}
 use Rattle.chip.specs.declared.table.Turn.the-variants.{Keep, Enable, Disable, Start, Sleep, Wake}
-use Rattle.chip.specs.Table.{rowOf}
-use Rattle.chip.specs.Change.{srwdIn, bpIn, settledBy, turned}
+use Rattle.chip.specs.Table.{rowOf, addressOf}
+use Rattle.chip.specs.Change.{srwdIn, bpIn, cycleOf, turned}
 use Rattle.chip.proofs.Rows.{rows-ind}
 
--- only WRSR writes the settings
-abbrev KindLaw : Kind → ℕ → Type 0
-KindLaw Settings code = code ≡ 0x01
+-- no instruction starts a cycle of no kind, and only WRSR one that writes the settings
+abbrev pub KindLaw : Kind → ℕ → Type 0
+KindLaw Idle code = ⊥
 KindLaw Page code = Unit {0}
 KindLaw Sector code = Unit {0}
 KindLaw All code = Unit {0}
+KindLaw Settings code = code ≡ 0x01
 
--- what a row's change of the record needs of the row: no instruction changes the latch while busy, only WRSR writes settings, only a part that sleeps goes to deep power-down
+-- what a row's change of the record needs of the row: no instruction changes latch or mode while busy, a cycle is of a kind, only a part that sleeps goes to deep power-down
 abbrev pub TurnLaw : Turn → Figures → ℕ → Bool → Type 0
 TurnLaw Keep f code busy = Unit {0}
 TurnLaw Enable f code busy = busy ≡ false
 TurnLaw Disable f code busy = busy ≡ false
 TurnLaw (Start k) f code busy = KindLaw k code
-TurnLaw Sleep f code busy = f .sleeps ≡ true
-TurnLaw Wake f code busy = Unit {0}
+TurnLaw Sleep f code busy = (busy ≡ false) × (f .sleeps ≡ true)
+TurnLaw Wake f code busy = busy ≡ false
 
 pub turn-law : (f : Figures) (code : ℕ) → TurnLaw (rowOf f code .turn) f code (rowOf f code .busy)
-turn-law f = rows-ind (λ code r. TurnLaw (r .turn) f code (r .busy)) f refl refl (λ e. tt) tt refl tt tt tt tt tt (λ e. e) (λ e. tt) (λ code. tt)
+turn-law f = rows-ind (λ code r. TurnLaw (r .turn) f code (r .busy)) f refl refl (λ e. tt) tt refl tt tt tt tt tt (λ e. (refl, e)) (λ e. refl) (λ code. tt)
+
+-- ---- the cycle that is started
 
 -- BP of a settings byte does not exceed the part's highest
 bp-fits : (p b : ℕ) → leb (bpIn (figuresOf p) b) (figuresOf p .«highest_bp») ≡ true
@@ -56,33 +68,48 @@ bp-fits p b =
     (le-leb (b / 4 % 8) 7 (omega arith))
     p
 
+-- an address lies within the part
+pub address-within : (p : ℕ) (sent : List ℕ) → addressOf (figuresOf p) sent < figuresOf p .bytes
+unfolding addressOf
+address-within p sent = mod-lt (getD sent 1 0 * 65536 + getD sent 2 0 * 256 + getD sent 3 0) (sane p .some)
+
+-- a cycle's duration is in range
+duration-fits : (k : Kind) (d : Device) (code : ℕ) → KindLaw k code → sound d ≡ true → rangedOf (durationOf k d) ≡ true
+duration-fits Idle d code l s = absurd l
+duration-fits Page d code l s = sound-has d s .program-fits
+duration-fits Sector d code l s = sound-has d s .sector-fits
+duration-fits All d code l s = sound-has d s .bulk-fits
+duration-fits Settings d code l s = sound-has d s .status-fits
+
+-- a program has 256 slots
+slots-are : (at : ℕ) (bytes : List ℕ) → length (filled blank at bytes) ≡ 256
+unfolding blank
+slots-are at bytes = filled-length blank at bytes ∙ length-replicate {A = ℕ} 256 255
+
+cycle-fits : (k : Kind) (p code : ℕ) (sent : List ℕ) → KindLaw k code → cycleSound (cycleOf k (figuresOf p) (addressOf (figuresOf p) sent) sent) (figuresOf p) true ≡ true
+unfolding cycleOf
+cycle-fits Idle p code sent l = absurd l
+cycle-fits Page p code sent l = page-sound p _ _ (address-within p sent) (slots-are _ (drop 4 sent))
+cycle-fits Sector p code sent l = sector-sound p _ (address-within p sent)
+cycle-fits All p code sent l = all-sound p
+cycle-fits Settings p code sent l = settings-sound p (srwdIn (getD sent 1 0)) _ (bp-fits p (getD sent 1 0))
+
+-- ---- soundness
+
 rest-if : (a b : Bool) → (a ≡ true → b ≡ true) → b ≡ false → a ≡ false
 rest-if true b h e = sym (h refl) ∙ e
 rest-if false b h e = refl
 
--- a cycle's duration is in range
-duration-fits : (k : Kind) (d : Device) → sound d ≡ true → rangedOf (durationOf k d) ≡ true
-duration-fits Settings d s = sound-has d s .status-fits
-duration-fits Page d s = sound-has d s .program-fits
-duration-fits Sector d s = sound-has d s .sector-fits
-duration-fits All d s = sound-has d s .bulk-fits
-
-settled-by-sound : (k : Kind) (d : Device) (b : ℕ) → sound d ≡ true → sound (settledBy k (figuresOf (d .part)) d b) ≡ true
-settled-by-sound Settings d b s = settled-sound d (srwdIn b) (bpIn (figuresOf (d .part)) b) s (bp-fits (d .part) b)
-settled-by-sound Page d b s = s
-settled-by-sound Sector d b s = s
-settled-by-sound All d b s = s
-
 -- a sound record stays sound by what its row does to it
-pub turned-sound : (t : Turn) (d : Device) (b code : ℕ) (busy : Bool) → TurnLaw t (figuresOf (d .part)) code busy → (isBusy (d .mode) ≡ true → busy ≡ true) → sound d ≡ true
-    → sound (turned t (figuresOf (d .part)) d b) ≡ true
+pub turned-sound : (t : Turn) (d : Device) (sent : List ℕ) (code : ℕ) (busy : Bool) → TurnLaw t (figuresOf (d .part)) code busy → (isBusy (d .mode) ≡ true → busy ≡ true) → sound d ≡ true
+    → sound (turned t (figuresOf (d .part)) d (addressOf (figuresOf (d .part)) sent) sent) ≡ true
 unfolding turned
-turned-sound Keep d b code busy t h s = s
-turned-sound Enable d b code busy t h s = latched-sound d true s (rest-if (isBusy (d .mode)) busy h t)
-turned-sound Disable d b code busy t h s = latched-sound d false s (rest-if (isBusy (d .mode)) busy h t)
-turned-sound (Start k) d b code busy t h s = running-sound (settledBy k (figuresOf (d .part)) d b) (durationOf k d) (settled-by-sound k d b s) (duration-fits k d s)
-turned-sound Sleep d b code busy t h s = deep-sound d (d .latch) s t
-turned-sound Wake d b code busy t h s = standby-sound d (d .latch) s
+turned-sound Keep d sent code busy t h s = s
+turned-sound Enable d sent code busy t h s = latched-sound d true s (rest-if (isBusy (d .mode)) busy h t)
+turned-sound Disable d sent code busy t h s = latched-sound d false s (rest-if (isBusy (d .mode)) busy h t)
+turned-sound (Start k) d sent code busy t h s = started-sound d _ (durationOf k d) s (duration-fits k d code t s) (cycle-fits k (d .part) code sent t)
+turned-sound Sleep d sent code busy t h s = moded-sound d (d .latch) Deep s (sym (rest-if (isBusy (d .mode)) busy h (t .0))) (t .1)
+turned-sound Wake d sent code busy t h s = moded-sound d (d .latch) Standby s (sym (rest-if (isBusy (d .mode)) busy h t)) refl
 
 -- ---- what a record keeps
 
@@ -104,73 +131,115 @@ same-make : (d : Device) (l : Bool) (m : Mode) → SameMake d (moded d l m)
 unfolding moded
 same-make d l m = record { part = refl; program = refl; sector = refl; bulk = refl; status = refl }
 
-started-make : (k : Kind) (f : Figures) (d : Device) (b t : ℕ) → SameMake d (running (settledBy k f d b) t)
-unfolding running moded settled
-started-make Settings f d b t = record { part = refl; program = refl; sector = refl; bulk = refl; status = refl }
-started-make Page f d b t = same-make d (latchAt t) (Busy t)
-started-make Sector f d b t = same-make d (latchAt t) (Busy t)
-started-make All f d b t = same-make d (latchAt t) (Busy t)
+started-make : (d : Device) (c : Cycle) (t : ℕ) → SameMake d (started d c t)
+unfolding started running moded remembering
+started-make d c t = record { part = refl; program = refl; sector = refl; bulk = refl; status = refl }
 
-pub turned-make : (t : Turn) (f : Figures) (d : Device) (b : ℕ) → SameMake d (turned t f d b)
+pub turned-make : (t : Turn) (f : Figures) (d : Device) (at : ℕ) (sent : List ℕ) → SameMake d (turned t f d at sent)
 unfolding turned moded record-is.latched
-turned-make Keep f d b = same-make d (d .latch) (d .mode)
-turned-make Enable f d b = same-make d true (d .mode)
-turned-make Disable f d b = same-make d false (d .mode)
-turned-make (Start k) f d b = started-make k f d b (durationOf k d)
-turned-make Sleep f d b = same-make d (d .latch) Deep
-turned-make Wake f d b = same-make d (d .latch) Standby
+turned-make Keep f d at sent = same-make d (d .latch) (d .mode)
+turned-make Enable f d at sent = same-make d true (d .mode)
+turned-make Disable f d at sent = same-make d false (d .mode)
+turned-make (Start k) f d at sent = started-make d _ (durationOf k d)
+turned-make Sleep f d at sent = same-make d (d .latch) Deep
+turned-make Wake f d at sent = same-make d (d .latch) Standby
 
-same-settings : (d : Device) (l : Bool) (m : Mode) → SameSettings d (moded d l m)
-unfolding moded
-same-settings d l m = record { bp = refl; srwd = refl }
+-- no instruction changes BP or SRWD: a write of them changes them at its end
+pub turned-settings : (t : Turn) (f : Figures) (d : Device) (at : ℕ) (sent : List ℕ) → SameSettings d (turned t f d at sent)
+unfolding turned started running moded remembering record-is.latched
+turned-settings Keep f d at sent = record { bp = refl; srwd = refl }
+turned-settings Enable f d at sent = record { bp = refl; srwd = refl }
+turned-settings Disable f d at sent = record { bp = refl; srwd = refl }
+turned-settings (Start k) f d at sent = record { bp = refl; srwd = refl }
+turned-settings Sleep f d at sent = record { bp = refl; srwd = refl }
+turned-settings Wake f d at sent = record { bp = refl; srwd = refl }
 
-started-settings : (k : Kind) (f : Figures) (d : Device) (b code t : ℕ) → KindLaw k code → (code ≡ 1 → ⊥) → SameSettings d (running (settledBy k f d b) t)
-unfolding running
-started-settings Settings f d b code t l h = absurd (h l)
-started-settings Page f d b code t l h = same-settings d (latchAt t) (Busy t)
-started-settings Sector f d b code t l h = same-settings d (latchAt t) (Busy t)
-started-settings All f d b code t l h = same-settings d (latchAt t) (Busy t)
+starts-writes : (k : Kind) (f : Figures) (at : ℕ) (sent : List ℕ) (code : ℕ) → KindLaw k code → usesOf (cycleOf k f at sent .kind) .settings ≡ true → code ≡ 0x01
+unfolding cycleOf pageCycle sectorCycle allCycle
+starts-writes Idle f at sent code l e = absurd l
+starts-writes Page f at sent code l e = absurd (false≢true e)
+starts-writes Sector f at sent code l e = absurd (false≢true e)
+starts-writes All f at sent code l e = absurd (false≢true e)
+starts-writes Settings f at sent code l e = l
 
-pub turned-settings : (t : Turn) (d : Device) (f : Figures) (b code : ℕ) (busy : Bool) → TurnLaw t f code busy → (code ≡ 1 → ⊥) → SameSettings d (turned t f d b)
-unfolding turned moded record-is.latched
-turned-settings Keep d f b code busy t h = same-settings d (d .latch) (d .mode)
-turned-settings Enable d f b code busy t h = same-settings d true (d .mode)
-turned-settings Disable d f b code busy t h = same-settings d false (d .mode)
-turned-settings (Start k) d f b code busy t h = started-settings k f d b code (durationOf k d) t h
-turned-settings Sleep d f b code busy t h = same-settings d (d .latch) Deep
-turned-settings Wake d f b code busy t h = same-settings d (d .latch) Standby
+-- a settings write is remembered only if one was before, or if WRSR starts it
+pub turned-writes : (t : Turn) (f : Figures) (d : Device) (at : ℕ) (sent : List ℕ) (code : ℕ) (busy : Bool) → TurnLaw t f code busy
+    → usesOf (turned t f d at sent .cycle .kind) .settings ≡ true → (usesOf (d .cycle .kind) .settings ≡ true) ⊎ (code ≡ 0x01)
+unfolding turned started running moded remembering record-is.latched
+turned-writes Keep f d at sent code busy l e = inl e
+turned-writes Enable f d at sent code busy l e = inl e
+turned-writes Disable f d at sent code busy l e = inl e
+turned-writes (Start k) f d at sent code busy l e = inr (starts-writes k f at sent code l e)
+turned-writes Sleep f d at sent code busy l e = inl e
+turned-writes Wake f d at sent code busy l e = inl e
 
--- ---- waiting and power-up
+-- ---- waiting, power-up and power loss
 
--- waiting leaves a sound record sound
-pub wait-sound : (d : Device) (t : ℕ) → sound d ≡ true → sound (waitCall d t .device) ≡ true
-unfolding waitCall soundAnswer
-wait-sound d t s = rw s (waited-sound d t s)
+-- a sound record stays sound
+pub wait-sound : (c : Chip) (t : ℕ) → sound (c .device) ≡ true → sound (waitCall c t .chip .device) ≡ true
+unfolding waitCall
+wait-sound c t s = zero-ind (λ (n : Chip). sound (n .device) ≡ true) (timeNumber (c .device) (length (c .array)) 0) (waited-sound c t s) s
 
--- so does power-up
-pub power-up-sound : (d : Device) → sound d ≡ true → sound (powerUpCall d .device) ≡ true
-unfolding powerUpCall soundAnswer
-power-up-sound d s = rw s (powered-sound d s)
+pub power-up-sound : (c : Chip) → sound (c .device) ≡ true → sound (powerUpCall c .chip .device) ≡ true
+unfolding powerUpCall
+power-up-sound c s = zero-ind (λ (n : Chip). sound (n .device) ≡ true) (timeNumber (c .device) (length (c .array)) 0) (finished-sound c s) s
 
--- neither changes the settings, the part or a duration
-pub record Rested (d e : Device) : Type 0 where
-  pub make : SameMake d e
-  pub settings : SameSettings d e
+pub loss-sound : (c : Chip) (mask : List ℕ) (told : Bool) → sound (c .device) ≡ true → sound (lossCall c mask told .chip .device) ≡ true
+unfolding lossCall
+loss-sound c mask told s = zero-ind (λ (n : Chip). sound (n .device) ≡ true) (timeNumber (c .device) (length (c .array)) (maskNumber (length mask))) (lost-sound c mask told s) s
 
-same : (d : Device) (l : Bool) (m : Mode) → Rested d (moded d l m)
-unfolding moded
-same d l m = record { make = same-make d l m; settings = same-settings d l m }
+-- the part and the durations stay
+over-make : (d : Device) (told : Bool) → SameMake d (afterCycle d told)
+unfolding afterCycle ended moded remembering settled
+over-make d told = go (usesOf (d .cycle .kind) .settings && told)
+  where
+    go : (b : Bool) → SameMake d (ended (cond b (settled d (d .cycle .srwd) (d .cycle .bp)) d))
+    go true = record { part = refl; program = refl; sector = refl; bulk = refl; status = refl }
+    go false = record { part = refl; program = refl; sector = refl; bulk = refl; status = refl }
 
-waited-rests : (m : Mode) (d : Device) (t : ℕ) → Rested d (waitedIn m d t)
-unfolding running moded
-waited-rests Standby d t = same d (d .latch) (d .mode)
-waited-rests (Busy left) d t = cond-ind (Rested d) (ltb t left) (same d (latchAt (left - t)) (Busy (left - t))) (same d false Standby)
-waited-rests Deep d t = same d (d .latch) (d .mode)
+stays-make : (d : Device) → SameMake d d
+stays-make d = record { part = refl; program = refl; sector = refl; bulk = refl; status = refl }
 
-pub wait-rests : (d : Device) (t : ℕ) → Rested d (waitCall d t .device)
-unfolding waitCall waited moded
-wait-rests d t = zero-ind (Rested d) (soundAnswer d) (waited-rests (d .mode) d t) (same d (d .latch) (d .mode))
+waited-make : (m : Mode) (c : Chip) (t : ℕ) → SameMake (c .device) (waitedIn m c t .device)
+unfolding running finished
+waited-make Standby c t = stays-make (c .device)
+waited-make (Busy left) c t = cond-ind (λ (n : Chip). SameMake (c .device) (n .device)) (ltb t left) (same-make (c .device) (latchAt (left - t)) (Busy (left - t))) (over-make (c .device) true)
+waited-make Deep c t = stays-make (c .device)
 
-pub power-up-rests : (d : Device) → Rested d (powerUpCall d .device)
-unfolding powerUpCall poweredUp moded
-power-up-rests d = zero-ind (Rested d) (soundAnswer d) (same d false Standby) (same d (d .latch) (d .mode))
+pub wait-make : (c : Chip) (t : ℕ) → SameMake (c .device) (waitCall c t .chip .device)
+unfolding waitCall waited
+wait-make c t = zero-ind (λ (n : Chip). SameMake (c .device) (n .device)) (timeNumber (c .device) (length (c .array)) 0) (waited-make (c .device .mode) c t) (stays-make (c .device))
+
+pub power-up-make : (c : Chip) → SameMake (c .device) (powerUpCall c .chip .device)
+unfolding powerUpCall finished
+power-up-make c = zero-ind (λ (n : Chip). SameMake (c .device) (n .device)) (timeNumber (c .device) (length (c .array)) 0) (over-make (c .device) true) (stays-make (c .device))
+
+pub loss-make : (c : Chip) (mask : List ℕ) (told : Bool) → SameMake (c .device) (lossCall c mask told .chip .device)
+unfolding lossCall lost
+loss-make c mask told = zero-ind (λ (n : Chip). SameMake (c .device) (n .device)) (timeNumber (c .device) (length (c .array)) (maskNumber (length mask))) (over-make (c .device) told) (stays-make (c .device))
+
+-- BP and SRWD stay, unless a settings write comes to its end
+pub over-settings : (d : Device) (told : Bool) → usesOf (d .cycle .kind) .settings ≡ false → SameSettings d (afterCycle d told)
+unfolding afterCycle ended moded remembering
+over-settings d told e = rw e (record { bp = refl; srwd = refl })
+
+stays-settings : (d : Device) → SameSettings d d
+stays-settings d = record { bp = refl; srwd = refl }
+
+waited-settings : (m : Mode) (c : Chip) (t : ℕ) → usesOf (c .device .cycle .kind) .settings ≡ false → SameSettings (c .device) (waitedIn m c t .device)
+unfolding running moded finished
+waited-settings Standby c t e = stays-settings (c .device)
+waited-settings (Busy left) c t e = cond-ind (λ (n : Chip). SameSettings (c .device) (n .device)) (ltb t left) (record { bp = refl; srwd = refl }) (over-settings (c .device) true e)
+waited-settings Deep c t e = stays-settings (c .device)
+
+pub wait-settings : (c : Chip) (t : ℕ) → usesOf (c .device .cycle .kind) .settings ≡ false → SameSettings (c .device) (waitCall c t .chip .device)
+unfolding waitCall waited
+wait-settings c t e = zero-ind (λ (n : Chip). SameSettings (c .device) (n .device)) (timeNumber (c .device) (length (c .array)) 0) (waited-settings (c .device .mode) c t e) (stays-settings (c .device))
+
+pub power-up-settings : (c : Chip) → usesOf (c .device .cycle .kind) .settings ≡ false → SameSettings (c .device) (powerUpCall c .chip .device)
+unfolding powerUpCall finished
+power-up-settings c e = zero-ind (λ (n : Chip). SameSettings (c .device) (n .device)) (timeNumber (c .device) (length (c .array)) 0) (over-settings (c .device) true e) (stays-settings (c .device))
+
+pub loss-settings : (c : Chip) (mask : List ℕ) (told : Bool) → usesOf (c .device .cycle .kind) .settings ≡ false → SameSettings (c .device) (lossCall c mask told .chip .device)
+unfolding lossCall lost
+loss-settings c mask told e = zero-ind (λ (n : Chip). SameSettings (c .device) (n .device)) (timeNumber (c .device) (length (c .array)) (maskNumber (length mask))) (over-settings (c .device) told e) (stays-settings (c .device))

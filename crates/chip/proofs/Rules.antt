@@ -3,6 +3,7 @@
 use mathlib.Core.Path.{_≡_, refl, sym, _∙_}
 use mathlib.Core.Bool.{Bool, true, false, cond, not, _&&_, _||_}
 use mathlib.Core.List.{List, [], _∷_}
+use mathlib.Core.Logic.{_⊎_, inl, inr}
 use Prim.Native.Nat.{ℕ, zero, suc, _+_, _-_, _/_, _%_, _≤_, _<_}
 use native.Mathlib.Omega.{arith}
 use borrow.Author.Tests.{le-ltb, ltb-true, ltb-false}
@@ -21,8 +22,8 @@ use Rattle.parts.proofs.Laws.{figures-ind}
 use Rattle.device.specs.declared.Device.{Device}
 use Rattle.device.specs.Device.{isBusy, isDeep, sound, statusByte}
 use Rattle.device.specs.declared.cycle.Kind.{Kind}
-use Rattle.device.specs.declared.cycle.Kind.the-variants.{Settings, Page, Sector, All}
-use Rattle.device.specs.Cycles.{touchedIn, touched}
+use Rattle.device.specs.declared.cycle.Kind.the-variants.{Idle, Page, Sector, All, Settings}
+use Rattle.device.specs.Cycles.{usesOf, touchedIn, touched}
 use Rattle.chip.specs.declared.table.Turn.{Turn}
 use Rattle.chip.specs.declared.table.Turn.the-variants.{Keep}
 use Rattle.chip.specs.declared.table.Drive.{Drive}
@@ -41,7 +42,7 @@ use Rattle.chip.proofs.Verdicts.{Host, Taken, Decision, refuses, ignore
 use Rattle.slices.proofs.Choices.{cond-ind}
 use Rattle.chip.proofs.Lines.{first-soon}
 use Rattle.chip.proofs.Laws.{count-le}
-use Rattle.chip.proofs.Records.{turn-law, turned-sound, SameMake, SameSettings, turned-make, turned-settings}
+use Rattle.chip.proofs.Records.{turn-law, turned-sound, SameMake, SameSettings, turned-make, turned-settings, turned-writes}
 
 -- ---- the numbers
 
@@ -90,10 +91,11 @@ pub record Few (a : Answer) : Type 0 where
   pub missing : a .missing ≤ mostMissing
 
 missing-in-few : (k : Kind) (at : ℕ) (sent array : List ℕ) → missingIn k at sent array ≤ mostMissing
-missing-in-few Settings at sent array = lit≤ tt
+missing-in-few Idle at sent array = lit≤ tt
 missing-in-few Page at sent array = missing-few at (drop 4 sent) array
 missing-in-few Sector at sent array = lit≤ tt
 missing-in-few All at sent array = lit≤ tt
+missing-in-few Settings at sent array = lit≤ tt
 
 missing-of-few : (t : Turn) (at : ℕ) (sent array : List ℕ) → missingOf t at sent array ≤ mostMissing
 unfolding missingOf
@@ -110,19 +112,20 @@ map-bytes f xs h b i lt =
     let k : i < length xs = rw (length-map f xs) at lt in
     rw (getD-map f xs i 0 k) (h i (getD xs i 0) (b i k))
 
-touched-byte : (k : Kind) (f : Figures) (at : ℕ) (slots : List ℕ) (i x : ℕ) → x < 256 → touchedIn k f at slots i x < 256
+pub touched-byte : (k : Kind) (f : Figures) (at : ℕ) (slots : List ℕ) (i x : ℕ) → x < 256 → touchedIn k f at slots i x < 256
 unfolding programmed erased
-touched-byte Settings f at slots i x h = h
+touched-byte Idle f at slots i x h = h
 touched-byte Page f at slots i x h = cond-ind (λ (y : ℕ). y < 256) (eqb (i / 256) (at / 256)) (omega (arith, and-le-l x (getD slots (i % 256) 0))) h
 touched-byte Sector f at slots i x h = cond-ind (λ (y : ℕ). y < 256) (eqb (i / f .«sector_bytes») (at / f .«sector_bytes»)) (lit< tt) h
 touched-byte All f at slots i x h = lit< tt
+touched-byte Settings f at slots i x h = h
 
 -- bytes stay bytes
 pub changed-byte : (t : Turn) (f : Figures) (at : ℕ) (sent : List ℕ) (i x : ℕ) → x < 256 → changed t f at sent i x < 256
 unfolding changed touched
 changed-byte t f at sent i x h =
-    start-ind (λ (g : ℕ → ℕ → ℕ). g i x < 256) t (λ k. touched f (cycleOf k at sent)) asItWas
-    (λ k. touched-byte (cycleOf k at sent .kind) f (cycleOf k at sent .address) (cycleOf k at sent .slots) i x h) h
+    start-ind (λ (g : ℕ → ℕ → ℕ). g i x < 256) t (λ k. touched f (cycleOf k f at sent)) asItWas
+    (λ k. touched-byte (cycleOf k f at sent .kind) f (cycleOf k f at sent .address) (cycleOf k f at sent .slots) i x h) h
 
 -- a part's identification and signature are bytes
 pub record Figured (f : Figures) : Type 0 where
@@ -177,6 +180,11 @@ driven-byte d array before b =
     cond-ind (λ (x : Driven). onLine x < 256) (leb (heardRow d before .from) (length before))
     (kth-byte (heardRow d before .drive) (figuresOf (d .part)) (statusByte d) array (addressOf (figuresOf (d .part)) before) (length before - heardRow d before .from) (figured (d .part)) (status-byte d) b)
     (lit< tt)
+
+-- an executed instruction's answer is 0
+executed-one : {A B : Type 0} → A ⊎ B → A ⊎ (B × (_≡_ {A = ℕ} 0 0))
+executed-one (inl a) = inl a
+executed-one (inr b) = inr (b, refl)
 
 -- ---- the outcome
 
@@ -266,22 +274,18 @@ module _ (d : Device) (array sent : List ℕ) (pulses : ℕ) (w : Bool) (respons
               let l : length (mapAt f response) ≤ i = rw (length-map f response) k in
               List·getD-eq-default (mapAt f response) 0 l ∙ sym (List·getD-eq-default response 0 k)
 
-  -- the array keeps its length, and so does the response
-  pub array-length : length (out .array) ≡ length array
+  -- no transaction changes the array
+  pub array-stays : out .array ≡ array
   unfolding outcomeOf
-  array-length = outcome-ind (λ (o : Outcome). length (o .array) ≡ length array) (λ a. refl) (λ h b. refl) (λ h t. length-map _ array)
+  array-stays = outcome-ind (λ (o : Outcome). o .array ≡ array) (λ a. refl) (λ h b. refl) (λ h t. refl)
+
+  -- the response keeps its length
 
   pub response-length : length (out .response) ≡ length response
   unfolding outcomeOf
   response-length = outcome-ind (λ (o : Outcome). length (o .response) ≡ length response) (λ a. refl) (λ h b. length-map _ response) (λ h t. length-map _ response)
 
   -- bytes stay bytes
-  pub array-bytes : Bytes array → Bytes (out .array)
-  unfolding outcomeOf
-  array-bytes b =
-      outcome-ind (λ (o : Outcome). Bytes (o .array)) (λ a. b) (λ h n. b)
-      (λ h t. map-bytes (changed (rowIn d sent .turn) (figuresOf (d .part)) (addressOf (figuresOf (d .part)) sent) sent) array (λ i x l. changed-byte (rowIn d sent .turn) (figuresOf (d .part)) (addressOf (figuresOf (d .part)) sent) sent i x l) b)
-
   pub response-bytes : Bytes array → Bytes response → Bytes (out .response)
   unfolding outcomeOf lined window
   response-bytes a b =
@@ -295,20 +299,25 @@ module _ (d : Device) (array sent : List ℕ) (pulses : ℕ) (w : Bool) (respons
   stays-sound s =
       outcome-ind (λ (o : Outcome). sound (o .device) ≡ true) (λ a. s) (λ h b. s)
       (λ h t.
-      turned-sound (rowIn d sent .turn) d (getD sent 1 0) (getD sent 0 0) (rowIn d sent .busy) (turn-law (figuresOf (d .part)) (getD sent 0 0)) (t .busy) s)
+      turned-sound (rowIn d sent .turn) d sent (getD sent 0 0) (rowIn d sent .busy) (turn-law (figuresOf (d .part)) (getD sent 0 0)) (t .busy) s)
 
-  -- only an executed WRSR changes BP or SRWD
-  pub settings-stay : (getD sent 0 0 ≡ 0x01 → out .answer .number ≡ 0 → ⊥) → SameSettings d (out .device)
+  -- no transaction changes BP or SRWD
+  pub settings-stay : SameSettings d (out .device)
   unfolding outcomeOf
   settings-stay =
-      outcome-ind (λ (o : Outcome). (getD sent 0 0 ≡ 0x01 → o .answer .number ≡ 0 → ⊥) → SameSettings d (o .device))
-      (λ a n. record { bp = refl; srwd = refl }) (λ h b n. record { bp = refl; srwd = refl })
-      (λ h t n.
-      turned-settings (rowIn d sent .turn) d (figuresOf (d .part)) (getD sent 1 0) (getD sent 0 0) (rowIn d sent .busy) (turn-law (figuresOf (d .part)) (getD sent 0 0)) (λ e. n e refl))
+      outcome-ind (λ (o : Outcome). SameSettings d (o .device)) (λ a. record { bp = refl; srwd = refl }) (λ h b. record { bp = refl; srwd = refl })
+      (λ h t. turned-settings (rowIn d sent .turn) (figuresOf (d .part)) d (addressOf (figuresOf (d .part)) sent) sent)
+
+  -- only an executed WRSR starts a write of them
+  pub only-wrsr-writes : usesOf (out .device .cycle .kind) .settings ≡ true → (usesOf (d .cycle .kind) .settings ≡ true) ⊎ ((getD sent 0 0 ≡ 0x01) × (out .answer .number ≡ 0))
+  unfolding outcomeOf
+  only-wrsr-writes =
+      outcome-ind (λ (o : Outcome). usesOf (o .device .cycle .kind) .settings ≡ true → (usesOf (d .cycle .kind) .settings ≡ true) ⊎ ((getD sent 0 0 ≡ 0x01) × (o .answer .number ≡ 0))) (λ a e. inl e) (λ h b e. inl e)
+      (λ h t e. executed-one (turned-writes (rowIn d sent .turn) (figuresOf (d .part)) d (addressOf (figuresOf (d .part)) sent) sent (getD sent 0 0) (rowIn d sent .busy) (turn-law (figuresOf (d .part)) (getD sent 0 0)) e))
 
   -- no call changes the part or a duration
   pub make-stays : SameMake d (out .device)
   unfolding outcomeOf turned
   make-stays =
-      outcome-ind (λ (o : Outcome). SameMake d (o .device)) (λ a. turned-make Keep (figuresOf (d .part)) d 0) (λ h b. turned-make Keep (figuresOf (d .part)) d 0)
-      (λ h t. turned-make (rowIn d sent .turn) (figuresOf (d .part)) d (getD sent 1 0))
+      outcome-ind (λ (o : Outcome). SameMake d (o .device)) (λ a. turned-make Keep (figuresOf (d .part)) d 0 sent) (λ h b. turned-make Keep (figuresOf (d .part)) d 0 sent)
+      (λ h t. turned-make (rowIn d sent .turn) (figuresOf (d .part)) d (addressOf (figuresOf (d .part)) sent) sent)

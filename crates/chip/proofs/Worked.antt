@@ -12,15 +12,16 @@ use Rattle.memory.specs.Memory as memory-is
 use Rattle.memory.specs.Missing.{missingAt, missing, pageOf}
 use Rattle.parts.specs.Parts.{figuresOf}
 use Rattle.parts.specs.Protected.{protectedOf}
-use Rattle.device.specs.Device.{waitCall, powerUpCall, soundAnswer, waited, poweredUp, sound, statusByte, moded, latched, settled, running, latchAt}
+use Rattle.device.specs.Device.{sound, statusByte, moded, latched, settled, remembering, running, started, ended, latchAt}
+use Rattle.device.specs.Time.{afterCycle, finished, lost, waited, timeNumber, maskNumber, timed, Timed, waitCall, powerUpCall, lossCall}
 use Rattle.chip.specs.Table.{rowOf, addressOf}
 use Rattle.chip.specs.Answers.{hostNumber, inProtected, asNeeded, chipNumber, decided, verdictOf}
 use Rattle.chip.specs.Line.{byRow, heard, heardRow, driven, lined, drivingAt, firstOf, countOf}
-use Rattle.device.specs.Cycles.{noSlots, touched}
-use Rattle.chip.specs.Change.{cycleOf, changed, missingOf, bpIn, turned}
-use Rattle.chip.specs.Outcome.{outcomeOf, transacted}
+use Rattle.device.specs.Cycles.{noSlots, noCycle, pageCycle, sectorCycle, allCycle, settingsCycle, slotsSound, cycleSound, touched, cut}
+use Rattle.chip.specs.Change.{cycleOf, missingOf, bpIn, turned}
+use Rattle.chip.specs.Outcome.{bare, outcomeOf, transacted}
 use Rattle.chip.specs.Worked.{Step, tells, holds, Case, gave, sees, fresh, all, cases, further}
-use Rattle.chip.specs.Events.{Chip, Event, sends, waits, starts, Reply, sent, after, reply}
+use Rattle.chip.specs.Events.{Chip, Event, sends, waits, starts, loses, Reply, sent, after, reply}
 use Rattle.chip.proofs.Events.{after-length}
 
 -- an event on an array of a given length: what it leaves, and what is seen of it
@@ -28,20 +29,25 @@ record Done : Type 0 where
   chip : Chip
   reply : Reply
 
+abbrev passes : Timed → Done
+passes o = record { chip = o .chip; reply = record { answer = bare (o .answer); line = [] } }
+
 abbrev does : ℕ → Event → Chip → Done
 does len (sends bytes p w) c =
     let zeros : List ℕ = replicate (length bytes) 0 in
     let o = outcomeOf (verdictOf (c .device) len bytes p w (length zeros)) (c .device) (c .array) bytes zeros in
     record { chip = record { device = o .device; array = o .array }; reply = record { answer = o .answer; line = o .response } }
-does len (waits t) c = record { chip = after (waits t) c; reply = reply (waits t) c }
-does len starts c = record { chip = after starts c; reply = reply starts c }
+does len (waits t) c = passes (timed (timeNumber (c .device) len 0) (waited c t) c)
+does len starts c = passes (timed (timeNumber (c .device) len 0) (finished c) c)
+does len (loses mask told) c = passes (timed (timeNumber (c .device) len (maskNumber (length mask))) (lost c mask told) c)
 
 -- the length given is the array's
 does-is : (e : Event) (c : Chip) → does (length (c .array)) e c ≡ record { chip = after e c; reply = reply e c }
-unfolding sent transacted
+unfolding sent transacted waitCall powerUpCall lossCall
 does-is (sends bytes p w) c = refl
 does-is (waits t) c = refl
 does-is starts c = refl
+does-is (loses mask told) c = refl
 
 -- `sees`, with the array's length given
 unfoldable seesAt : ℕ → List Step → Chip → Bool
@@ -71,7 +77,7 @@ all-at (k ∷ ks) =
     ap₂ _&&_ (sees-at (k .steps) (figuresOf (k .device .part) .bytes) (fresh (k .device)) (length-replicate (figuresOf (k .device .part) .bytes) 0xFF)) (all-at ks)
 
 computed : T (allAt cases) × T (allAt further)
-unfolding allAt cases further seesAt mapAt window sumAt memory-is.blank memory-is.filled memory-is.programmed memory-is.erased figuresOf protectedOf waitCall powerUpCall soundAnswer waited poweredUp sound statusByte moded latched settled running latchAt rowOf addressOf hostNumber inProtected asNeeded chipNumber decided verdictOf byRow heard heardRow driven lined drivingAt firstOf countOf noSlots cycleOf touched changed missingOf missing missingAt pageOf memory-is.reached memory-is.landed ones onesIn bpIn turned outcomeOf
+unfolding allAt cases further seesAt mapAt window sumAt memory-is.blank memory-is.filled memory-is.programmed memory-is.erased memory-is.cutPage memory-is.cutSector figuresOf protectedOf timeNumber waited afterCycle finished lost sound statusByte moded latched settled remembering running started ended latchAt rowOf addressOf hostNumber inProtected asNeeded chipNumber decided verdictOf byRow heard heardRow driven lined drivingAt firstOf countOf noSlots noCycle pageCycle sectorCycle allCycle settingsCycle slotsSound cycleSound cycleOf touched cut missingOf missing missingAt pageOf memory-is.reached memory-is.landed ones onesIn bpIn turned outcomeOf
 computed = (tt, tt)
 
 -- K1 to K15 hold

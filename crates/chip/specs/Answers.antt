@@ -1,5 +1,5 @@
 -- Document 01, 'Answer numbers': the first that applies is given. Lengths are handed over as numbers.
-use mathlib.Core.Bool.{Bool, true, false, cond, not, _&&_, _||_}
+use mathlib.Core.Bool.{Bool, false, cond, not, _&&_, _||_}
 use mathlib.Core.List.{List}
 use Prim.Native.Nat.{ℕ, _-_, _/_}
 use lib.Dec.{eqb, leb, ltb}
@@ -10,7 +10,8 @@ use Rattle.parts.specs.Protected.{protectedOf}
 use Rattle.device.specs.declared.Device.{Device}
 use Rattle.device.specs.Device.{isBusy, isDeep, sound, rangedOf}
 use Rattle.device.specs.declared.cycle.Kind.{Kind}
-use Rattle.device.specs.declared.cycle.Kind.the-variants.{Settings, Page, Sector, All}
+use Rattle.device.specs.declared.cycle.Kind.the-variants.{Idle, Page, Sector, All, Settings}
+use Rattle.device.specs.Cycles.{usesOf}
 use Rattle.chip.specs.declared.table.Turn.{Turn}
 use Rattle.chip.specs.declared.table.Row.{Row}
 use Rattle.chip.specs.declared.answers.Verdict.{Verdict}
@@ -39,16 +40,9 @@ hostNumber d array n pulses response =
 
 -- ---- the chip
 
--- a cycle that writes the settings
-abbrev pub isSettings : Kind → Bool
-isSettings Settings = true
-isSettings Page = false
-isSettings Sector = false
-isSettings All = false
-
 -- WRSR, the instruction that writes the settings
 abbrev pub writesSettings : Turn → Bool
-writesSettings t = onStart t isSettings false
+writesSettings t = onStart t (λ k. usesOf k .settings) false
 
 -- whether the sector of an address is among the highest that BP protects
 unfoldable pub inProtected : Figures → ℕ → ℕ → Bool
@@ -56,10 +50,11 @@ inProtected f bp at = leb (f .sectors - protectedOf (f .sectors) bp) (at / f .«
 
 -- what guards a cycle: PP or SE in a protected sector; BE with BP above 0
 abbrev pub guardedIn : Kind → Figures → Device → ℕ → Bool
-guardedIn Settings f d at = false
+guardedIn Idle f d at = false
 guardedIn Page f d at = inProtected f (d .bp) at
 guardedIn Sector f d at = inProtected f (d .bp) at
 guardedIn All f d at = ltb 0 (d .bp)
+guardedIn Settings f d at = false
 
 -- an instruction whose cycle is guarded
 abbrev pub guarded : Turn → Figures → Device → ℕ → Bool

@@ -5,8 +5,9 @@ use mathlib.Core.List.{List, [], _∷_}
 use Prim.Native.Nat.{ℕ, _+_}
 use lib.ListN.{length, replicate}
 use Rattle.parts.specs.Parts.{figuresOf}
-use Rattle.device.specs.Device.{sound, waitCall, powerUpCall}
+use Rattle.device.specs.Device.{sound}
 pub use Rattle.device.specs.Chip.{Chip}
+use Rattle.device.specs.Time.{waitCall, powerUpCall, lossCall}
 use Rattle.chip.specs.declared.Answer.{Answer}
 use Rattle.chip.specs.Outcome.{Outcome, bare, transacted}
 
@@ -22,6 +23,8 @@ pub data Event : Type 0 where
   waits : ℕ → Event
   -- power-up
   starts : Event
+  -- power is lost and comes back: a mask, and yes or no
+  loses : List ℕ → Bool → Event
 
 -- a test holds of each event of a list
 abbrev pub every : (Event → Bool) → List Event → Bool
@@ -44,14 +47,16 @@ left o = record { device = o .device; array = o .array }
 -- the chip after one event
 abbrev pub after : Event → Chip → Chip
 after (sends bytes pulses w) c = left (sent c bytes pulses w)
-after (waits t) c = record { device = waitCall (c .device) t .device; array = c .array }
-after starts c = record { device = powerUpCall (c .device) .device; array = c .array }
+after (waits t) c = waitCall c t .chip
+after starts c = powerUpCall c .chip
+after (loses mask told) c = lossCall c mask told .chip
 
 -- what the caller sees of one event
 abbrev pub reply : Event → Chip → Reply
 reply (sends bytes pulses w) c = record { answer = sent c bytes pulses w .answer; line = sent c bytes pulses w .response }
-reply (waits t) c = record { answer = bare (waitCall (c .device) t .answer); line = [] }
-reply starts c = record { answer = bare (powerUpCall (c .device) .answer); line = [] }
+reply (waits t) c = record { answer = bare (waitCall c t .answer); line = [] }
+reply starts c = record { answer = bare (powerUpCall c .answer); line = [] }
+reply (loses mask told) c = record { answer = bare (lossCall c mask told .answer); line = [] }
 
 -- one event after the other
 abbrev pub run : List Event → Chip → Chip

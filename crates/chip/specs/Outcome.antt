@@ -3,7 +3,7 @@ use mathlib.Core.Path.{_≡_}
 use mathlib.Core.Bool.{Bool}
 use mathlib.Core.List.{List}
 use Prim.Native.Nat.{ℕ}
-use lib.ListN.{length, getD}
+use lib.ListN.{length}
 use Rattle.slices.specs.Changed.{mapAt, window, put}
 use Rattle.parts.specs.Parts.{figuresOf}
 use Rattle.device.specs.declared.Device.{Device}
@@ -18,7 +18,7 @@ use Rattle.chip.specs.declared.line.Span.{Span}
 use Rattle.chip.specs.Table.{addressOf, rowIn}
 use Rattle.chip.specs.Answers.{deliveryAnswer, verdictOf}
 use Rattle.chip.specs.Line.{lined, firstOf, countOf}
-use Rattle.chip.specs.Change.{changed, missingOf, turned}
+use Rattle.chip.specs.Change.{missingOf, turned}
 
 -- ---- a transaction
 
@@ -33,12 +33,12 @@ pub record Outcome : Type 0 where
 abbrev pub bare : ℕ → Answer
 bare k = record { number = k; first = 0; count = 0; missing = 0 }
 
--- an executed transaction's answer and next record, as the code makes them: from where something is driven, from the bits missing, and from byte 1
-abbrev pub executedWith : Device → Instruction → Span → ℕ → ℕ → Done
-executedWith d i s missing b =
-    record { answer = record { number = 0; first = s .first; count = s .count; missing = missing }; device = turned (i .row .turn) (i .figures) d b }
+-- an executed transaction's answer and next record, as the code makes them: from where something is driven, and from the bits missing
+abbrev pub executedWith : Device → Instruction → Span → ℕ → List ℕ → Done
+executedWith d i s missing sent =
+    record { answer = record { number = 0; first = s .first; count = s .count; missing = missing }; device = turned (i .row .turn) (i .figures) d (i .address) sent }
 
--- refused: record, array and response unchanged. Ignored: record and array stay, the first n response bytes are FF. Executed: answer 0, and what the instruction does
+-- refused: record, array and response unchanged. Ignored: record and array stay, the first n response bytes are FF. Executed: answer 0, and what the instruction does; the array stays here too, until the cycle ends
 unfoldable pub outcomeOf : Verdict → Device → List ℕ → List ℕ → List ℕ → Outcome
 outcomeOf (Refused k) d array sent response = record { answer = bare k; device = d; array = array; response = response }
 outcomeOf (Ignored k) d array sent response =
@@ -52,8 +52,8 @@ outcomeOf Executed d array sent response =
             count = countOf d array sent;
             missing = missingOf (rowIn d sent .turn) (addressOf (figuresOf (d .part)) sent) sent array;
           };
-      device = turned (rowIn d sent .turn) (figuresOf (d .part)) d (getD sent 1 0);
-      array = mapAt (changed (rowIn d sent .turn) (figuresOf (d .part)) (addressOf (figuresOf (d .part)) sent) sent) array;
+      device = turned (rowIn d sent .turn) (figuresOf (d .part)) d (addressOf (figuresOf (d .part)) sent) sent;
+      array = array;
       response = mapAt (lined d array sent) response;
     }
 

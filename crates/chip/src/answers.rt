@@ -3,13 +3,14 @@ ghost use mathlib.Core.Path.{_≡_};
 ghost use mathlib.Core.Bool.{cond, not, _&&_};
 ghost use Prim.Native.Nat.{_<_};
 ghost use Rattle.parts.specs.Parts.{figuresOf};
-ghost use Rattle.chip.specs.Answers.{hostNumber, isSettings, writesSettings, inProtected, guardedIn, guarded, asNeeded, chipNumber, decided};
+ghost use Rattle.chip.specs.Answers.{hostNumber, writesSettings, inProtected, guardedIn, guarded, asNeeded, chipNumber, decided};
 use crate::LONGEST;
 use crate::table::Instruction;
 use crate::table::Row;
 use crate::table::Turn;
 use device::Device;
 use device::cycle::Kind;
+use device::cycle::Uses;
 use device::is_busy;
 use device::is_deep;
 use parts::Figures;
@@ -34,18 +35,6 @@ pub fn host_number(device: Device, array: usize, n: usize, pulses: u32, response
     slices::when(!sound, 6, x)
 }
 
-// Whether a cycle writes the settings.
-fn is_settings(kind: Kind) -> bool
-    ensures { λ r. ⌜ r ≡ isSettings kind ⌝ }
-{
-    match kind {
-        Kind::Settings => true,
-        Kind::Page => false,
-        Kind::Sector => false,
-        Kind::All => false,
-    }
-}
-
 // Whether the sector of an address is among the protected ones.
 fn in_protected(figures: Figures, bp: u8, at: u32) -> bool
     requires { ⌜ 0 < figures .«sector_bytes» ⌝ }
@@ -62,10 +51,11 @@ fn is_guarded(kind: Kind, figures: Figures, device: Device, at: u32) -> bool
     ensures { λ r. ⌜ r ≡ guardedIn kind figures device at ⌝ }
 {
     match kind {
-        Kind::Settings => false,
+        Kind::Idle => false,
         Kind::Page => in_protected(figures, device.bp, at),
         Kind::Sector => in_protected(figures, device.bp, at),
         Kind::All => 0 < device.bp,
+        Kind::Settings => false,
     }
 }
 
@@ -77,8 +67,8 @@ fn guard_number(turn: Turn, figures: Figures, device: Device, w: bool, at: u32) 
     match turn {
         Turn::Start(kind) => {
             let locked = is_guarded(kind, figures, device, at);
-            let settings = is_settings(kind);
-            let x = slices::when(settings & device.srwd & !w, 18, 0);
+            let uses = Uses::of(kind);
+            let x = slices::when(uses.settings & device.srwd & !w, 18, 0);
             slices::when(locked, 17, x)
         }
         Turn::Keep => 0,

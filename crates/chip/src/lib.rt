@@ -51,14 +51,14 @@ impl Answer {
     }
 }
 
-// An executed transaction's answer and next record: what it drives, the bits missing, and its byte 1.
-fn executed(device: Device, asked: Instruction, span: Span, missing: u32, b: u8) -> Done
+// An executed transaction's answer and next record.
+fn executed(device: Device, asked: Instruction, span: Span, missing: u32, sent: &[u8]) -> Done
     requires { ⌜ (span .first ≤ longest) × (span .count ≤ longest) ⌝ }
-    ensures { λ o. ⌜ o ≡ executedWith device asked span missing b ⌝ }
+    ensures { λ o. ⌜ o ≡ executedWith device asked span missing (now (sent .entry)) ⌝ }
 {
     let row = asked.row;
     let turn = row.turn;
-    let next = change::next_record(turn, asked.figures, device, b);
+    let next = change::next_record(turn, asked.figures, device, asked.address, sent);
     let answer = Answer {
         number: 0,
         first: span.first as u32,
@@ -71,26 +71,25 @@ fn executed(device: Device, asked: Instruction, span: Span, missing: u32, b: u8)
     }
 }
 
-// Executes a transaction: first the line, then the array, then the record.
+// Executes a transaction: the line, the bits missing, the record. The array is read only: a cycle that is started changes it at its end.
 fn execute(
     device: Device,
     asked: Instruction,
-    array: &mut [u8],
+    array: &[u8],
     sent: &[u8],
     response: &mut [u8],
 ) -> Done
     requires { ⌜ (asked ≡ instructionIn device (now sent)) × (length (now sent) ≤ longest) ⌝ }
-    ensures { λ o. ⌜ Meets (outcomeOf Executed device (now (array .entry)) (now (sent .entry)) (now (response .entry))) (o .answer) (o .device) (now (array .exit)) (now (response .exit)) ⌝ }
+    ensures { λ o. ⌜ Meets (outcomeOf Executed device (now (array .entry)) (now (sent .entry)) (now (response .entry))) (o .answer) (o .device) (now (array .entry)) (now (response .exit)) ⌝ }
 {
-    let figures = asked.figures;
     let row = asked.row;
     let turn = row.turn;
     let span = line::respond(device, asked, array, sent, response);
-    let missing = change::carry_out(turn, figures, asked.address, sent, array);
-    executed(device, asked, span, missing, slices::byte_at(sent, 1))
+    let missing = change::missing_of(turn, asked.address, sent, array);
+    executed(device, asked, span, missing, sent)
 }
 
-// One transaction: the bytes sent, the further pulses, and the level of W as Chip Select rises.
+// One transaction: the bytes sent, the further pulses, and the level of W as Chip Select rises. No transaction changes a byte of the array: a cycle does, at its end.
 pub fn transact(
     device: Device,
     array: &mut [u8],
@@ -152,7 +151,7 @@ pub fn foreseen(
         }
         Verdict::Executed => {
             let span = line::span_driven(device, asked, sent.len());
-            return executed(device, asked, span, 0, slices::byte_at(sent, 1));
+            return executed(device, asked, span, 0, sent);
         }
     }
 }

@@ -21,7 +21,7 @@ pub(crate) fn longest() {
         &mut r,
         &mut s,
     );
-    let t = steps::ready(t);
+    let t = steps::ready(t, &mut a, &mut b);
     let t = steps::exchange(t, &mut a, &mut b, &sent, 0, true, &mut r, &mut s);
     steps::print_byte(&r, 65_535);
     steps::print_byte(&r, 65_536);
@@ -43,6 +43,7 @@ pub(crate) fn last_wins(name: &[u8], slot: u8, first: u8, last: u8) {
     let mut s = [0; 300];
     let t = steps::begin(name, 0, &mut a, &mut b);
     let t = steps::exchange(t, &mut a, &mut b, &sent, 0, true, &mut r, &mut s);
+    let t = steps::ready(t, &mut a, &mut b);
     steps::print_byte(&a, text::address(0, 0, slot));
     steps::print_byte(&a, text::address(0, 1, slot));
     steps::finish(t);
@@ -64,7 +65,7 @@ pub(crate) fn rewritten() {
     let mut s = [0; 300];
     let t = steps::begin(b"missing-long", 0, &mut a, &mut b);
     let t = steps::exchange(t, &mut a, &mut b, &zeros, 0, true, &mut r, &mut s);
-    let t = steps::ready(t);
+    let t = steps::ready(t, &mut a, &mut b);
     let t = steps::exchange(t, &mut a, &mut b, &sent, 0, true, &mut r, &mut s);
     steps::finish(t);
 }

@@ -1,6 +1,7 @@
 // Runs document 01's worked cases, and cases of our own, on the four parts whose arrays fit the stack, through both entries. What a script says stands in `steps`.
 // K14 is not here: it needs the 16 MiB of the M25P128, and is proved.
 mod long;
+mod passing;
 mod protected;
 mod refused;
 mod steps;
@@ -35,10 +36,10 @@ fn worked_first() {
     bench(b"K2", b"= 0 0 0;x 1 0 06;s;= 0 0 0;x 1 1 06;s");
     // latch reset: 0200001000 gives 16
     bench(b"K3", b"= 0 0 0;x 1 0 0200001000");
-    // AA programmed onto F0 leaves A0; two bits were missing
+    // AA programmed onto F0 leaves A0, once its cycle has ended; two bits were missing
     bench(
         b"K4",
-        b"x 1 0 02000010F0;w 3;x 1 0 06;x 1 0 02000010AA;a 000010",
+        b"x 1 0 02000010F0;w 3;x 1 0 06;x 1 0 02000010AA;w 3;a 000010",
     );
     // 257 data bytes at 000000, first 11, last 22, between them FF: byte 0 is 22, not 00
     long::last_wins(b"K5", 0, 0x11, 0x22);
@@ -50,7 +51,7 @@ fn worked_first() {
     // BP 1: a program at 000BFF is executed, at 000C00 gives 17
     bench(
         b"K7",
-        b"= 0 1 1;x 1 0 02000BFF00;a 000BFF;= 0 1 1;x 1 0 02000C0000;a 000C00",
+        b"= 0 1 1;x 1 0 02000BFF00;w 3;a 000BFF;= 0 1 1;x 1 0 02000C0000;a 000C00",
     );
 }
 
@@ -60,7 +61,7 @@ fn worked_last() {
     bench(b"K8", b"= 0 1 1;x 1 0 C7");
     // SRWD 1: 0100 gives 18 with W low, 0 with W high
     bench(b"K9", b"= 1 0 1;x 0 0 0100;s;x 1 0 0100;s");
-    // 01FF: status 8F right after the write, 8C after waiting 2
+    // 01FF: status 03 right after the write, 8C after waiting 2
     bench(b"K10", b"x 1 0 01FF;x 1 0 0500;w 2;x 1 0 0500");
     // 02000000 gives 15, so does D800000000
     bench(b"K11", b"x 1 0 02000000;x 1 0 D800000000");
@@ -82,7 +83,7 @@ fn wrong_readings() {
     // letting a program run on into the next page: F0 stands at 000000, and 000100 stays FF
     bench(
         b"no-run-on",
-        b"x 1 0 020000FF5AF0;a 0000FF;a 000000;a 000100",
+        b"x 1 0 020000FF5AF0;w 3;a 0000FF;a 000000;a 000100",
     );
     // resetting the latch when an instruction is ignored with 15, 14 or 17: it stays
     bench(
@@ -92,11 +93,11 @@ fn wrong_readings() {
     // freezing the status register on W low alone: with SRWD 0 it is executed
     bench(b"w-low-alone", b"x 0 0 0100;s");
     // letting W low stop a program: with SRWD 1 it is executed
-    bench(b"w-low-program", b"= 1 0 1;x 0 0 0200001055;a 000010;s");
+    bench(b"w-low-program", b"= 1 0 1;x 0 0 0200001055;w 3;a 000010;s");
     // bulk-erasing just the unprotected sectors: with BP 1 none is erased, with BP 0 all are
     bench(
         b"bulk-erase",
-        b"x 1 0 0200000000;= 0 0 1;x 1 0 02000C0000;= 0 1 1;x 1 0 C7;a 000000;a 000C00;= 0 0 1;x 1 0 C7;a 000000;a 000C00;s",
+        b"x 1 0 0200000000;= 0 0 1;x 1 0 02000C0000;= 0 1 1;x 1 0 C7;a 000000;a 000C00;= 0 0 1;x 1 0 C7;w 9;a 000000;a 000C00;s",
     );
 }
 
@@ -108,11 +109,11 @@ fn instructions() {
         b"x 1 0 02000FFE112233;w 3;x 1 0 06;x 1 0 020000004455;w 3;x 1 0 03000FFE0000000000;x 1 0 0B000FFE000000000000",
     );
     // an address is taken modulo the part's size
-    bench(b"address-modulo", b"x 1 0 02FFF01066;a 000010");
+    bench(b"address-modulo", b"x 1 0 02FFF01066;w 3;a 000010");
     // the addressed sector becomes FF, and its neighbours stay
     bench(
         b"sector-erase",
-        b"x 1 0 020003FF00;= 0 0 1;x 1 0 0200040000;= 0 0 1;x 1 0 020007FF00;= 0 0 1;x 1 0 0200080000;= 0 0 1;x 1 0 D80005A5;a 0003FF;a 000400;a 0007FF;a 000800;s",
+        b"x 1 0 020003FF00;= 0 0 1;x 1 0 0200040000;= 0 0 1;x 1 0 020007FF00;= 0 0 1;x 1 0 0200080000;= 0 0 1;x 1 0 D80005A5;w 4;a 000400;w 1;a 0003FF;a 000400;a 0007FF;a 000800;s",
     );
     // 04 alone resets the latch; with a second byte or further pulses it gives 15
     bench(b"write-disable", b"x 1 0 04;s;x 1 0 0400;x 1 7 04");
@@ -130,7 +131,7 @@ fn missing() {
     // 0F over A0 wants four bits, FF over 00 eight, FF over FF none, and no data reaches the 00 behind them; after an erase none is missing
     bench(
         b"missing-rewrite",
-        b"x 1 0 02000010A000FF00;w 3;x 1 0 06;x 1 0 020000100FFFFF;a 000010;a 000011;w 3;x 1 0 06;x 1 0 D8000000;w 5;x 1 0 06;x 1 0 020000100FFFFF",
+        b"x 1 0 02000010A000FF00;w 3;x 1 0 06;x 1 0 020000100FFFFF;w 3;a 000010;a 000011;x 1 0 06;x 1 0 D8000000;w 5;x 1 0 06;x 1 0 020000100FFFFF",
     );
     // data that wraps: FF over 0F at 0000FF, then FF over FC at 000000; the 00 at 000100 does not count
     bench(
@@ -143,6 +144,32 @@ fn missing() {
         b"x 1 0 02000C1000;x 1 0 02000C10FF;w 3;x 1 0 02000C10FF;= 0 1 1;x 1 0 02000C10FF;x 1 1 02000C10FF;= 0 0 1;x 1 0 02000C10FF",
     );
     long::rewritten();
+}
+
+// Power lost in mid-cycle, and outside a cycle.
+fn losses() {
+    // a program of 0F over C3, cut with 50: C3 and (0F or 50); a second loss changes nothing; cut with FF nothing of it happened, with 00 it is whole
+    bench(
+        b"loss-program",
+        b"x 1 0 020001FFC3;p;x 1 0 06;x 1 0 020001FF0F;w 2;l 50 1;a 0001FF;a 000200;s;l 00 1;a 0001FF;x 1 0 06;x 1 0 020001FF02;l FF 1;a 0001FF;x 1 0 06;x 1 0 020001FF02;l 00 0;a 0001FF",
+    );
+    // an erase over 00, cut with 3C, and a bulk erase cut with C0 on top; what lies beside the sector stays 00 until the bulk erase
+    bench(
+        b"loss-erase",
+        b"x 1 0 0200040100;w 3;x 1 0 06;x 1 0 020003FF00;w 3;x 1 0 06;x 1 0 D80007FF;w 4;l 3C 0;a 000401;a 0003FF;s;x 1 0 06;x 1 0 C7;l C0 0;a 000401;a 0003FF",
+    );
+    // settings: absent on no, complete on yes
+    bench(
+        b"loss-settings",
+        b"x 1 0 0184;l 00 0;s;x 1 0 06;x 1 0 0184;s;l FF 1;s",
+    );
+    // outside a cycle the latch is reset, and deep power-down left
+    bench(
+        b"loss-idle",
+        b"= 1 1 1;l 00 1;s;x 1 0 B9;s;l FF 0;s;a 000000",
+    );
+    // a record that is not sound: 6, and nothing changes
+    bench(b"loss-not-sound", b"= 0 4 1;l 00 1;s");
 }
 
 // Deep power-down, cycles, waiting and power-up.
@@ -159,11 +186,11 @@ fn modes() {
     );
     // less than the ticks left: they fall by t, and the latch is reset on the last one; otherwise standby with the latch reset
     bench(b"wait", b"x 1 0 C7;s;w 0;s;w 4;s;w 4;s;w 1;s;w 9;s");
-    // settings written: 8F right after it, 8D on the last tick, 8C afterwards
+    // settings written: 03 right after it, 01 on the last tick, 8C afterwards
     bench(b"last-tick", b"x 1 0 01FF;s;w 1;s;w 1;s");
     // in standby waiting changes nothing
     bench(b"wait-standby", b"w 9;s");
-    // in mid-cycle: standby, latch reset, BP, SRWD and the array kept; then out of deep power-down
+    // in mid-cycle: the program is completed; standby, latch reset, BP and SRWD kept; then out of deep power-down
     bench(
         b"power-up",
         b"= 1 1 1;x 1 0 02000000AA;s;p;s;a 000000;x 1 0 B9;s;p;s",
@@ -176,6 +203,7 @@ fn refusals() {
     // BP 4 on the bench part is not sound: 6 from a transaction, before 4, from waiting and from power-up
     bench(b"not-sound", b"= 0 4 1;x 1 0 0500;w 1;p;s;x 1 8 0500");
     refused::array_length();
+    refused::time_and_power();
     refused::too_many();
     // further pulses above 7: 4, before 11
     bench(b"pulses-8", b"x 1 8 0500;x 1 8");
@@ -264,7 +292,7 @@ fn on_m25p40() {
     // all eight sectors are erased
     m25p40(
         b"M25P40-bulk-erase",
-        b"x 1 0 0207000000;= 0 0 1;x 1 0 C7;a 070000;s",
+        b"x 1 0 0207000000;= 0 0 1;x 1 0 C7;w 9;a 070000;s",
     );
 }
 
@@ -288,6 +316,7 @@ fn main() {
     instructions();
     missing();
     modes();
+    losses();
     refusals();
     on_m25p10a();
     on_older_m25p10a();

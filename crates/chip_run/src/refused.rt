@@ -1,8 +1,10 @@
-// What the host side refuses: deliveries, and transactions whose lengths a script cannot have.
+// What the host side refuses: deliveries, and calls whose lengths a script cannot have.
+use crate::passing::Passing;
+use crate::passing::pass;
 use crate::steps;
-use crate::text;
 use device::Checked;
 use device::Device;
+use device::cycle::Cycle;
 
 // A delivery on an array of 33s.
 fn given(part: u32, a: &mut [u8], program: u32, write_status: u32) -> Checked {
@@ -17,8 +19,8 @@ fn print_given(name: &[u8], x: Checked, a: &[u8]) {
     io::write_all(1, name);
     show::print_number(x.answer as u64);
     show::print_choice(steps::same_record(d, zero), b" zero", b" given");
-    show::print_choice(text::all_are(a, 0, 0x33), b" kept", b" changed");
-    show::print_choice(text::all_are(a, 0, 0xFF), b" erased\n", b" not erased\n");
+    show::print_choice(show::all_are(a, 0, 0x33), b" kept", b" changed");
+    show::print_choice(show::all_are(a, 0, 0xFF), b" erased\n", b" not erased\n");
 }
 
 // One delivery.
@@ -111,4 +113,49 @@ pub(crate) fn too_many() {
     let t = steps::begin(b"n-65537", 0, &mut a, &mut b);
     let t = steps::exchange(t, &mut a, &mut b, &sent, 8, true, &mut r, &mut s);
     steps::finish(t);
+}
+
+// A call of time or power that is refused: its answer, and whether record and array are as they were.
+fn print_refused(name: &[u8], d: Device, x: Checked, a: &[u8]) {
+    let after = x.device;
+    io::write_all(1, name);
+    show::print_number(x.answer as u64);
+    show::print_choice(steps::same_record(d, after), b" same", b" changed");
+    show::print_choice(show::all_are(a, 0, 0x33), b" kept\n", b" touched\n");
+}
+
+// A wait or a power-up.
+fn refused_pass(name: &[u8], d: Device, a: &mut [u8], what: Passing) {
+    let x = pass(d, a, what);
+    print_refused(name, d, x, a);
+}
+
+// A power loss with such a mask.
+fn refused_loss(name: &[u8], d: Device, a: &mut [u8], mask: &[u8]) {
+    let x = d.loss(a, mask, true);
+    print_refused(name, d, x, a);
+}
+
+// One byte of the array too few: 2, of a loss before the 41 of a mask that is too short.
+fn short_array(d: Device, a: &mut [u8]) {
+    refused_pass(b"wait-length", d, a, Passing::Wait(9));
+    refused_pass(b"power-up-length", d, a, Passing::PowerUp);
+    refused_loss(b"loss-length", d, a, &[0; 255]);
+}
+
+// Masks of 255 and 257 bytes: 41.
+fn other_masks(d: Device, a: &mut [u8]) {
+    refused_loss(b"loss-mask-255", d, a, &[0; 255]);
+    refused_loss(b"loss-mask-257", d, a, &[0; 257]);
+}
+
+// What waiting, power-up and power loss refuse, on an array of 33s: in a bulk erase, and 41 outside a cycle, too.
+pub(crate) fn time_and_power() {
+    let mut a = [0x33; 4096];
+    let mut short = [0x33; 4095];
+    let idle = Device::delivered(0, 3, 5, 9, 2);
+    let busy = idle.started(Cycle::all(), 9);
+    short_array(busy, &mut short);
+    other_masks(busy, &mut a);
+    other_masks(idle, &mut a);
 }

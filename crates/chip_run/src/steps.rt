@@ -3,17 +3,23 @@
 // A script is a run of steps parted by semicolons:
 //   x W bits hex   one transaction: prints the answer (number, first, count, bits missing), the response, and three marks:
 //                  r the record changed, a the array changed, b the response changed from byte n on
-//   w t            waits t ticks, one digit: prints the answer
-//   p              powers up: prints the answer
+//   w t            waits t ticks, one digit: prints the answer, and a where the array changed
+//   p              powers up: prints the same
+//   l mask yes     power is lost and comes back, with this byte in each place of the mask, and yes for 1: prints the same
 //   a address      prints the array byte there
 //   s              prints the status byte and the mode
-//   = S B L        SRWD, BP and the latch are set, in standby: prints nothing
+//   = S B L        a cycle that runs is completed, and SRWD, BP and the latch are set, in standby: prints nothing
 // The response holds 55 in each byte before a transaction. The line ends with `same` where answers, records, arrays and responses of both entries were the same at each step.
+use crate::passing::Passing;
+use crate::passing::completed;
+use crate::passing::timed;
 use crate::text;
 use chip::Answer;
 use chip::Done;
 use device::Device;
 use device::Mode;
+use device::cycle::Cycle;
+use device::cycle::Kind;
 use slices::byte_at;
 
 // The record of each entry, and whether all was the same so far.
@@ -37,6 +43,28 @@ fn same_bool(a: bool, b: bool) -> bool {
     if a { b } else { !b }
 }
 
+// A kind of cycle as a number.
+fn kind_number(kind: Kind) -> u8 {
+    match kind {
+        Kind::Idle => 0,
+        Kind::Page => 1,
+        Kind::Sector => 2,
+        Kind::All => 3,
+        Kind::Settings => 4,
+    }
+}
+
+// Whether two remembered cycles are the same, field by field.
+fn same_cycle(c: Cycle, d: Cycle) -> bool {
+    let k = c.kind;
+    let l = d.kind;
+    let kinds = kind_number(k) == kind_number(l);
+    let slots = c.slots;
+    let other = d.slots;
+    let settings = (c.bp == d.bp) & same_bool(c.srwd, d.srwd);
+    kinds & settings & (c.address == d.address) & check::same(&slots, &other)
+}
+
 // Whether two records are the same, field by field.
 pub(crate) fn same_record(d: Device, e: Device) -> bool {
     let m = d.mode;
@@ -45,7 +73,9 @@ pub(crate) fn same_record(d: Device, e: Device) -> bool {
     let bits = same_bool(d.srwd, e.srwd) & same_bool(d.latch, e.latch);
     let short = (d.program == e.program) & (d.sector_erase == e.sector_erase);
     let long = (d.bulk_erase == e.bulk_erase) & (d.write_status == e.write_status);
-    modes & bits & short & long & (d.part == e.part) & (d.bp == e.bp)
+    let c = d.cycle;
+    let cycles = same_cycle(c, e.cycle);
+    modes & bits & short & long & cycles & (d.part == e.part) & (d.bp == e.bp)
 }
 
 // Whether two answers are the same.
@@ -92,7 +122,7 @@ fn print_done(before: Device, x: Done, a: &[u8], b: &[u8], n: usize, r: &[u8]) {
     print_marks(
         same_record(before, after),
         check::same(a, b),
-        text::all_are(r, n, 0x55),
+        show::all_are(r, n, 0x55),
     );
 }
 
@@ -178,59 +208,26 @@ fn send(
     exchange(t, a, b, slices::front(sent, n), pulses as u32, w, r, s)
 }
 
-// Waits, and prints the answer.
-fn wait(t: Two, ticks: u8) -> Two {
-    let d = t.by_value;
-    let e = t.lent;
-    let x = d.wait(ticks as u32);
-    let y = e.wait(ticks as u32);
-    io::write_all(1, b" wait");
-    show::print_number(x.answer as u64);
-    let by_value = x.device;
-    let lent = y.device;
-    Two {
-        by_value,
-        lent,
-        same: t.same & (x.answer == y.answer),
-    }
-}
-
-// Powers up, and prints the answer.
-fn power_up(t: Two) -> Two {
-    let d = t.by_value;
-    let e = t.lent;
-    let x = d.power_up();
-    let y = e.power_up();
-    io::write_all(1, b" power");
-    show::print_number(x.answer as u64);
-    let by_value = x.device;
-    let lent = y.device;
-    Two {
-        by_value,
-        lent,
-        same: t.same & (x.answer == y.answer),
-    }
-}
-
-// A record with other settings and another latch, in standby.
+// A record that runs no cycle with other settings and another latch, in standby.
 pub(crate) fn settings(d: Device, srwd: bool, bp: u8, latch: bool) -> Device {
     let settled = d.settled(srwd, bp);
     settled.moded(latch, Mode::Standby)
 }
 
 // The settings of a script.
-fn set(t: Two, script: &[u8], at: usize) -> Two {
+fn set(t: Two, script: &[u8], at: usize, a: &mut [u8], b: &mut [u8]) -> Two {
     let srwd = byte_at(script, text::after(at, 2)) == b'1';
     let bp = text::digit(byte_at(script, text::after(at, 4)));
     let latch = byte_at(script, text::after(at, 6)) == b'1';
-    let d = t.by_value;
-    let e = t.lent;
+    let rested = completed(t, a, b);
+    let d = rested.by_value;
+    let e = rested.lent;
     let by_value = settings(d, srwd, bp, latch);
     let lent = settings(e, srwd, bp, latch);
     Two {
         by_value,
         lent,
-        same: t.same,
+        same: rested.same,
     }
 }
 
@@ -278,13 +275,19 @@ fn step(
         return send(t, script, at, end, a, b, sent, r, s);
     }
     if letter == b'w' {
-        return wait(t, text::digit(byte_at(script, text::after(at, 2))));
+        let ticks = text::digit(byte_at(script, text::after(at, 2)));
+        return timed(b" wait", t, Passing::Wait(ticks), a, b);
     }
     if letter == b'p' {
-        return power_up(t);
+        return timed(b" power", t, Passing::PowerUp, a, b);
+    }
+    if letter == b'l' {
+        let mask = text::pair_at(script, text::after(at, 2));
+        let yes = byte_at(script, text::after(at, 5)) == b'1';
+        return timed(b" loss", t, Passing::Loss { mask, yes }, a, b);
     }
     if letter == b'=' {
-        return set(t, script, at);
+        return set(t, script, at, a, b);
     }
     if letter == b'a' {
         print_byte(a, text::address_at(script, text::after(at, 2)));
@@ -335,16 +338,17 @@ pub(crate) fn begin(name: &[u8], part: u32, a: &mut [u8], b: &mut [u8]) -> Two {
     }
 }
 
-// Back to standby with the latch set, whatever cycle runs.
-pub(crate) fn ready(t: Two) -> Two {
-    let d = t.by_value;
-    let e = t.lent;
+// Back to standby with the latch set, a cycle that runs completed.
+pub(crate) fn ready(t: Two, a: &mut [u8], b: &mut [u8]) -> Two {
+    let rested = completed(t, a, b);
+    let d = rested.by_value;
+    let e = rested.lent;
     let by_value = settings(d, false, 0, true);
     let lent = settings(e, false, 0, true);
     Two {
         by_value,
         lent,
-        same: t.same,
+        same: rested.same,
     }
 }
 

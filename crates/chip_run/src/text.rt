@@ -69,18 +69,6 @@ pub(crate) fn read_bytes(s: &[u8], from: usize, end: usize, out: &mut [u8]) -> u
     n
 }
 
-// Whether each byte from `from` on is `v`.
-pub(crate) fn all_are(s: &[u8], from: usize, v: u8) -> bool {
-    let mut i = from;
-    while i < s.len() {
-        if s[i] != v {
-            return false;
-        }
-        i += 1;
-    }
-    true
-}
-
 // Prints the first `n` bytes in hexadecimal: a dash where there are none, and 16 with two dots where there are more.
 pub(crate) fn print_front(s: &[u8], n: usize) {
     let count = least(n, s.len());

@@ -1,43 +1,49 @@
 -- What the calls of the crate answer, by cases: what their proofs cite.
 -- Assumes nothing.
-use mathlib.Core.Path.{_≡_, refl}
+use mathlib.Core.Path.{_≡_, refl, ap, _∙_}
 use mathlib.Core.Bool.{Bool, true, false, cond, _&&_}
 use mathlib.Core.List.{List}
-use Prim.Native.Nat.{ℕ, _≤_}
+use Prim.Native.Nat.{ℕ, _-_, _≤_}
 use native.Mathlib.Omega.{arith}
-use lib.ListN.{length}
+use lib.ListN.{length, take, drop, replicate, length-drop}
+use lib.Seq.{take-all}
 use borrow.Author.Tests.{ne-eqb}
+use Rattle.slices.specs.Bytes.{sameBytes}
+use Rattle.slices.specs.Changed.{mapAt, stored}
+use Rattle.slices.proofs.Sames.{same-front}
+use Rattle.slices.proofs.Stores.{stored-whole}
 use Rattle.device.specs.declared.Device.{Device}
-use Rattle.device.specs.Device.{sound, zeroRecord, waited, poweredUp, soundAnswer, waitCall, powerUpCall}
-use Rattle.device.specs.Packing.{packedLength, packOf, packAnswer, Packed, formed, fieldsOf, unpackAnswer, unpackOf}
+use Rattle.device.specs.Device.{sound, zeroRecord}
+use Rattle.device.specs.Packing.{packedLength, frontLength, frontOf, packOf, packAnswer, Packed, formed, fieldsOf, unpackAnswer, unpackOf}
 
 -- a bit of the status byte is at most its weight
 pub weight : (b : Bool) (n : ℕ) → cond b n 0 ≤ n
 weight true n = omega arith
 weight false n = omega arith
 
+-- the slots of a packing, copied out of it
+pub rest-is : (b : List ℕ) {slots : List ℕ} → length b ≡ packedLength → slots ≡ mapAt (stored 0 (take (length b - frontLength) (drop frontLength b))) (replicate 256 0) → slots ≡ drop frontLength b
+rest-is b l e =
+    let n : length (drop frontLength b) ≡ length (replicate {A = ℕ} 256 0) = rw (length-drop frontLength b, l) in
+    e ∙ ap (λ (t : List ℕ). mapAt (stored 0 t) (replicate 256 0)) (take-all (length b - frontLength) (drop frontLength b) (omega (arith, length-drop frontLength b))) ∙ stored-whole (drop frontLength b) (replicate 256 0) n
+
 -- how long a packing is
-pub length-pack : (d : Device) → length (packOf d) ≡ packedLength
-unfolding packOf
-length-pack d = refl
+pub length-front : (d : Device) → length (frontOf d) ≡ frontLength
+unfolding frontOf
+length-front d = refl
 
--- wait: a record that is not sound, a sound record
-pub wait-refused : (d : Device) (t : ℕ) → sound d ≡ false → waitCall d t ≡ record { answer = 6; device = d }
-unfolding waitCall soundAnswer
-wait-refused d t h = rw h
+pub length-pack : (d : Device) → length (d .cycle .slots) ≡ 256 → length (packOf d) ≡ packedLength
+unfolding packOf frontOf
+length-pack d e = rw e
 
-pub wait-done : (d : Device) (t : ℕ) → sound d ≡ true → waitCall d t ≡ record { answer = 0; device = waited d t }
-unfolding waitCall soundAnswer
-wait-done d t h = rw h
+-- bytes of a packing's length are well formed if they begin as the packing of the record that stands in them
+pub formed-by : (b : List ℕ) → length b ≡ packedLength → formed b ≡ sameBytes (take frontLength b) (frontOf (fieldsOf b))
+unfolding formed packOf frontOf fieldsOf
+formed-by b l = same-front (frontOf (fieldsOf b)) b (omega (arith, l))
 
--- power-up: a record that is not sound, a sound record
-pub power-up-refused : (d : Device) → sound d ≡ false → powerUpCall d ≡ record { answer = 6; device = d }
-unfolding powerUpCall soundAnswer
-power-up-refused d h = rw h
-
-pub power-up-done : (d : Device) → sound d ≡ true → powerUpCall d ≡ record { answer = 0; device = poweredUp d }
-unfolding powerUpCall soundAnswer
-power-up-done d h = rw h
+-- as the code finds out whether they are, and whether that record is sound
+pub opened-by : (b : List ℕ) {f : Device} {r s : Bool} → length b ≡ packedLength → f ≡ fieldsOf b → r ≡ sameBytes (take frontLength b) (frontOf f) → s ≡ sound f → r && s ≡ formed b && sound (fieldsOf b)
+opened-by b l e p q = rw (p, q, e, formed-by b l)
 
 -- pack: a buffer of another length, a record that is not sound, a sound record
 pub packed-long : (d : Device) (out : List ℕ) → (length out ≡ packedLength → ⊥) → Packed d out 8 out

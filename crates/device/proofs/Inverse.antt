@@ -3,23 +3,27 @@
 use mathlib.Core.Path.{_≡_, refl, sym, ap, _∙_}
 use mathlib.Core.Bool.{Bool, true, false, cond, _&&_}
 use mathlib.Core.List.{List}
-use Prim.Native.Nat.{ℕ, _≤_}
+use Prim.Native.Nat.{ℕ, _≤_, _<_}
 use native.Mathlib.Omega.{arith}
 use lib.Dec.{eqb}
 use lib.ListN.{length}
-use borrow.Author.Tests.{eqb-true}
+use borrow.Author.Tests.{eqb-true, ltb-true}
 use Rattle.slices.specs.Bytes.{word, wordAt}
 use Rattle.slices.proofs.Choices.{both}
 use Rattle.slices.proofs.Sames.{same-self, same-is}
 use Rattle.slices.proofs.Words.{word-number}
 use Rattle.parts.specs.Parts.{figuresOf}
+use Rattle.parts.proofs.Laws.{sane}
 use Rattle.device.specs.declared.Mode.{Mode}
 use Rattle.device.specs.declared.Mode.the-variants.{Standby, Busy, Deep}
+use Rattle.device.specs.declared.cycle.Kind.{Kind}
+use Rattle.device.specs.declared.cycle.Kind.the-variants.{Idle, Page, Sector, All, Settings}
 use Rattle.device.specs.declared.Device.{Device}
-use Rattle.device.specs.Device.{sound, modeSound, rangedOf, bothSame, latchAt}
-use Rattle.device.specs.Packing.{packedLength, bit, modeNumber, ticksOf, modeOf, packOf, fieldsOf, formed, unpackAnswer, unpackOf}
+use Rattle.device.specs.Cycles.{bothSame}
+use Rattle.device.specs.Device.{sound, modeSound, rangedOf, latchAt, isBusy}
+use Rattle.device.specs.Packing.{packedLength, bit, modeNumber, ticksOf, modeOf, kindNumber, kindOf, frontOf, packOf, fieldsOf, formed, unpackAnswer, unpackOf}
 use Rattle.device.proofs.Calls.{length-pack, unpacked-good}
-use Rattle.device.proofs.Sound.{Sound, sound-has, ranged-most}
+use Rattle.device.proofs.Sound.{Sound, sound-has, ranged-most, cycle-has, slots-long}
 
 -- a bit
 bit-back : (x : Bool) → eqb (bit x) 1 ≡ x
@@ -35,9 +39,22 @@ mode-back Standby l s h = refl
 mode-back (Busy t) l s h = ap Busy (ranged-back t (both (rangedOf t) (bothSame l (latchAt t)) h .0))
 mode-back Deep l s h = refl
 
+kind-back : (k : Kind) → kindOf (kindNumber k) ≡ k
+kind-back Idle = refl
+kind-back Page = refl
+kind-back Sector = refl
+kind-back All = refl
+kind-back Settings = refl
+
+-- the address of a sound record's cycle
+address-back : (d : Device) → Sound d → wordAt (word (d .cycle .address)) 0 ≡ d .cycle .address
+address-back d s =
+    let l : d .cycle .address < figuresOf (d .part) .bytes = ltb-true _ _ (cycle-has (d .cycle) (figuresOf (d .part)) (isBusy (d .mode)) (s .cycle-fits) .within) in
+    word-number (d .cycle .address) (omega (arith, sane (d .part) .few))
+
 -- the fields of a sound record's packing are its own
 fields-pack : (d : Device) → Sound d → fieldsOf (packOf d) ≡ d
-unfolding fieldsOf packOf
+unfolding fieldsOf packOf frontOf
 fields-pack d s = λ i.
     record {
       part = d .part;
@@ -49,6 +66,14 @@ fields-pack d s = λ i.
       «sector_erase» = ranged-back (d .«sector_erase») (s .sector-fits) i;
       «bulk_erase» = ranged-back (d .«bulk_erase») (s .bulk-fits) i;
       «write_status» = ranged-back (d .«write_status») (s .status-fits) i;
+      cycle =
+          record {
+            kind = kind-back (d .cycle .kind) i;
+            address = address-back d s i;
+            slots = d .cycle .slots;
+            bp = d .cycle .bp;
+            srwd = bit-back (d .cycle .srwd) i;
+          };
     }
 
 -- so it is well formed
@@ -61,7 +86,7 @@ pub unpack-pack : (d : Device) → sound d ≡ true → unpackOf (packOf d) ≡ 
 unpack-pack d h =
     let e : fieldsOf (packOf d) ≡ d = fields-pack d (sound-has d h) in
     let t : formed (packOf d) && sound (fieldsOf (packOf d)) ≡ true = simp (formed-pack d e, e, h) in
-    unpacked-good (packOf d) (length-pack d) t ∙ rw e
+    unpacked-good (packOf d) (length-pack d (slots-long d h)) t ∙ rw e
 
 -- what bytes are that unpack answers 0
 pub record Opened (b : List ℕ) : Type 0 where

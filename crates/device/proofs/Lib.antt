@@ -1,7 +1,9 @@
--- Laws of the record and of its packing.
+-- Laws of the record, of time and power, and of the packing.
 pub mod Calls
 pub mod Sound
+pub mod Timed
 pub mod Waiting
+pub mod Ends
 pub mod Inverse
 pub mod Refused
 pub mod Outcomes

@@ -1,4 +1,4 @@
--- The promises of the four calls admit one outcome each.
+-- The promises of the five calls admit one outcome each.
 -- Assumes nothing.
 use mathlib.Core.Path.{_≡_, sym, _∙_}
 use mathlib.Core.List.{List}
@@ -6,7 +6,7 @@ use Prim.Native.Nat.{ℕ}
 use Rattle.slices.proofs.Outcomes.{one-outcome}
 use Rattle.device.specs.declared.Device.{Device}
 use Rattle.device.specs.declared.Checked.{Checked}
-use Rattle.device.specs.Device.{waitCall, powerUpCall}
+use Rattle.device.specs.Time.{Timed, Handed}
 use Rattle.device.specs.Packing.{Packed, unpackOf}
 
 -- an answer and a record handed back are equal where both are
@@ -15,13 +15,9 @@ same-checked {r} {s} e f =
     let x : _≡_ {A = Checked} (record { answer = r .answer; device = r .device }) (record { answer = s .answer; device = s .device }) = rw (e, f) in
     x
 
--- wait
-pub wait-one-outcome : (d : Device) (t : ℕ) {r₁ r₂ : Checked} → r₁ ≡ waitCall d t → r₂ ≡ waitCall d t → r₁ ≡ r₂
-wait-one-outcome d t p q = one-outcome p q
-
--- power-up
-pub power-up-one-outcome : (d : Device) {r₁ r₂ : Checked} → r₁ ≡ powerUpCall d → r₂ ≡ powerUpCall d → r₁ ≡ r₂
-power-up-one-outcome d p q = one-outcome p q
+-- wait, power-up and power loss: the answer, the record and every byte of the array
+pub time-one-outcome : {o : Timed} {r₁ r₂ : Checked} {a₁ a₂ : List ℕ} → Handed o r₁ a₁ → Handed o r₂ a₂ → (r₁ ≡ r₂) × (a₁ ≡ a₂)
+time-one-outcome p q = (same-checked (p .answer ∙ sym (q .answer)) (p .device ∙ sym (q .device)), p .memory ∙ sym (q .memory))
 
 -- pack: the answer and every lent byte
 pub pack-one-outcome : {d : Device} {out : List ℕ} {r₁ r₂ : ℕ} {out₁ out₂ : List ℕ} → Packed d out r₁ out₁ → Packed d out r₂ out₂ → (r₁ ≡ r₂) × (out₁ ≡ out₂)

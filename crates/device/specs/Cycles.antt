@@ -1,31 +1,104 @@
--- Document 01, 'Program', SE, BE and 'Cycles': what a cycle of each kind does to the array, and how many ticks it takes.
+-- Document 01, 'Program', SE, BE and 'Cycles', and document 02, Wish 9: what is remembered of a cycle, what it does to the array, whole or cut, and how many ticks it takes.
+use mathlib.Core.Bool.{Bool, true, false, cond, not, _&&_, _||_}
 use mathlib.Core.List.{List}
 use Prim.Native.Nat.{ℕ}
-use lib.ListN.{replicate}
-use Rattle.memory.specs.Memory.{programmed, erased}
+use lib.Dec.{eqb, leb, ltb}
+use lib.ListN.{length, replicate}
+use Rattle.slices.specs.Bytes.{sameBytes}
+use Rattle.memory.specs.Memory.{programmed, erased, ored, cutPage, cutSector}
 use Rattle.parts.specs.declared.Figures.{Figures}
 use Rattle.device.specs.declared.Device.{Device}
 use Rattle.device.specs.declared.cycle.Kind.{Kind}
-use Rattle.device.specs.declared.cycle.Kind.the-variants.{Settings, Page, Sector, All}
+use Rattle.device.specs.declared.cycle.Kind.the-variants.{Idle, Page, Sector, All, Settings}
+use Rattle.device.specs.declared.cycle.Uses.{Uses}
 use Rattle.device.specs.declared.cycle.Cycle.{Cycle}
+
+-- ---- what is remembered
+
+-- whether a kind is a cycle; whether it uses the address, the slots, the new settings
+abbrev pub usesRow : Bool → Bool → Bool → Bool → Uses
+usesRow c a l s = record { cycle = c; address = a; slots = l; settings = s }
+
+abbrev pub usesOf : Kind → Uses
+usesOf Idle = usesRow false false false false
+usesOf Page = usesRow true true true false
+usesOf Sector = usesRow true true false false
+usesOf All = usesRow true false false false
+usesOf Settings = usesRow true false false true
 
 -- the slots of a cycle that has none
 unfoldable pub noSlots : List ℕ
 noSlots = replicate 256 0
 
--- byte x at place i after a cycle: itself; itself and its slot in the addressed page; FF in the addressed sector; FF everywhere
+-- no cycle: all zero
+unfoldable pub noCycle : Cycle
+noCycle = record { kind = Idle; address = 0; slots = noSlots; bp = 0; srwd = false }
+
+-- a program remembers its address and all 256 slots
+unfoldable pub pageCycle : ℕ → List ℕ → Cycle
+pageCycle at slots = record { kind = Page; address = at; slots = slots; bp = 0; srwd = false }
+
+-- a sector erase its address
+unfoldable pub sectorCycle : ℕ → Cycle
+sectorCycle at = record { kind = Sector; address = at; slots = noSlots; bp = 0; srwd = false }
+
+-- a bulk erase its kind alone
+unfoldable pub allCycle : Cycle
+allCycle = record { kind = All; address = 0; slots = noSlots; bp = 0; srwd = false }
+
+-- a settings write the new SRWD and the new BP
+unfoldable pub settingsCycle : Bool → ℕ → Cycle
+settingsCycle w b = record { kind = Settings; address = 0; slots = noSlots; bp = b; srwd = w }
+
+-- ---- when it is sound
+
+-- whether two bools are equal
+abbrev pub bothSame : Bool → Bool → Bool
+bothSame a b = cond a b (not b)
+
+-- there are 256 slots, zero where they are not used
+unfoldable pub slotsSound : List ℕ → Bool → Bool
+slotsSound slots used = eqb (length slots) 256 && (used || sameBytes slots noSlots)
+
+-- a cycle is remembered exactly while busy; address and BP are within the part's; what the kind does not use is zero
+unfoldable pub cycleSound : Cycle → Figures → Bool → Bool
+cycleSound c f busy =
+    bothSame busy (usesOf (c .kind) .cycle)
+    && ltb (c .address) (f .bytes)
+    && leb (c .bp) (f .«highest_bp»)
+    && (usesOf (c .kind) .address || eqb (c .address) 0)
+    && slotsSound (c .slots) (usesOf (c .kind) .slots)
+    && (usesOf (c .kind) .settings || (eqb (c .bp) 0 && not (c .srwd)))
+
+-- ---- what it does to byte x at place i
+
+-- completed: nothing; itself and its slot in the addressed page; FF in the addressed sector; FF everywhere; nothing
 abbrev pub touchedIn : Kind → Figures → ℕ → List ℕ → ℕ → ℕ → ℕ
-touchedIn Settings f at slots i x = x
+touchedIn Idle f at slots i x = x
 touchedIn Page f at slots i x = programmed at slots i x
 touchedIn Sector f at slots i x = erased (f .«sector_bytes») at i x
 touchedIn All f at slots i x = 255
+touchedIn Settings f at slots i x = x
 
 unfoldable pub touched : Figures → Cycle → ℕ → ℕ → ℕ
 touched f c i x = touchedIn (c .kind) f (c .address) (c .slots) i x
 
--- how many ticks a cycle takes
+-- cut by a power loss: nothing; itself and (slot or mask) in the addressed page; itself or the mask at its page offset in the addressed sector; the same everywhere; nothing
+abbrev pub cutIn : Kind → Figures → ℕ → List ℕ → List ℕ → ℕ → ℕ → ℕ
+cutIn Idle f at slots mask i x = x
+cutIn Page f at slots mask i x = cutPage at slots mask i x
+cutIn Sector f at slots mask i x = cutSector (f .«sector_bytes») at mask i x
+cutIn All f at slots mask i x = ored mask i x
+cutIn Settings f at slots mask i x = x
+
+unfoldable pub cut : Figures → Cycle → List ℕ → ℕ → ℕ → ℕ
+cut f c mask i x = cutIn (c .kind) f (c .address) (c .slots) mask i x
+
+-- ---- how many ticks it takes
+
 abbrev pub durationOf : Kind → Device → ℕ
-durationOf Settings d = d .«write_status»
+durationOf Idle d = 0
 durationOf Page d = d .program
 durationOf Sector d = d .«sector_erase»
 durationOf All d = d .«bulk_erase»
+durationOf Settings d = d .«write_status»

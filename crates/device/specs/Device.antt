@@ -1,13 +1,14 @@
--- The device record of document 01: its changes, when it is sound, its status byte, and what the checked calls answer.
-use mathlib.Core.Bool.{Bool, true, false, cond, not, _&&_}
-use Prim.Native.Nat.{ℕ, _+_, _*_, _-_, _%_}
+-- The device record of document 01, with the cycle that document 02, Wish 9, has it remember: its changes, when it is sound, its status byte.
+use mathlib.Core.Bool.{Bool, true, false, cond, _&&_}
+use Prim.Native.Nat.{ℕ, _+_, _*_, _%_}
 use lib.Dec.{ltb, leb}
 pub use Rattle.slices.specs.Chosen.{onZero}
 use Rattle.parts.specs.Parts.{knownPart, figuresOf}
 use Rattle.device.specs.declared.Mode.{Mode}
 use Rattle.device.specs.declared.Mode.the-variants.{Standby, Busy, Deep}
 use Rattle.device.specs.declared.Device.{Device}
-use Rattle.device.specs.declared.Checked.{Checked}
+use Rattle.device.specs.declared.cycle.Cycle.{Cycle}
+use Rattle.device.specs.Cycles.{noCycle, bothSame, cycleSound}
 
 -- the latch of a cycle with t ticks left: set exactly if more than one tick is left
 unfoldable pub latchAt : ℕ → Bool
@@ -15,19 +16,23 @@ latchAt t = ltb 1 t
 
 -- another latch and mode
 unfoldable pub moded : Device → Bool → Mode → Device
-moded d l m = record { part = d .part; bp = d .bp; srwd = d .srwd; latch = l; mode = m; program = d .program; «sector_erase» = d .«sector_erase»; «bulk_erase» = d .«bulk_erase»; «write_status» = d .«write_status» }
+moded d l m = record { part = d .part; bp = d .bp; srwd = d .srwd; latch = l; mode = m; program = d .program; «sector_erase» = d .«sector_erase»; «bulk_erase» = d .«bulk_erase»; «write_status» = d .«write_status»; cycle = d .cycle }
 
 -- another latch
 unfoldable pub latched : Device → Bool → Device
-latched d on = record { part = d .part; bp = d .bp; srwd = d .srwd; latch = on; mode = d .mode; program = d .program; «sector_erase» = d .«sector_erase»; «bulk_erase» = d .«bulk_erase»; «write_status» = d .«write_status» }
+latched d on = record { part = d .part; bp = d .bp; srwd = d .srwd; latch = on; mode = d .mode; program = d .program; «sector_erase» = d .«sector_erase»; «bulk_erase» = d .«bulk_erase»; «write_status» = d .«write_status»; cycle = d .cycle }
 
 -- other settings
 unfoldable pub settled : Device → Bool → ℕ → Device
-settled d w b = record { part = d .part; bp = b; srwd = w; latch = d .latch; mode = d .mode; program = d .program; «sector_erase» = d .«sector_erase»; «bulk_erase» = d .«bulk_erase»; «write_status» = d .«write_status» }
+settled d w b = record { part = d .part; bp = b; srwd = w; latch = d .latch; mode = d .mode; program = d .program; «sector_erase» = d .«sector_erase»; «bulk_erase» = d .«bulk_erase»; «write_status» = d .«write_status»; cycle = d .cycle }
 
--- the record as delivered: BP 0, SRWD 0, latch reset, standby, the given durations
+-- another remembered cycle
+unfoldable pub remembering : Device → Cycle → Device
+remembering d c = record { part = d .part; bp = d .bp; srwd = d .srwd; latch = d .latch; mode = d .mode; program = d .program; «sector_erase» = d .«sector_erase»; «bulk_erase» = d .«bulk_erase»; «write_status» = d .«write_status»; cycle = c }
+
+-- the record as delivered: BP 0, SRWD 0, latch reset, standby, the given durations, no cycle
 unfoldable pub delivered : ℕ → ℕ → ℕ → ℕ → ℕ → Device
-delivered p program sector bulk status = record { part = p; bp = 0; srwd = false; latch = false; mode = Standby; program = program; «sector_erase» = sector; «bulk_erase» = bulk; «write_status» = status }
+delivered p program sector bulk status = record { part = p; bp = 0; srwd = false; latch = false; mode = Standby; program = program; «sector_erase» = sector; «bulk_erase» = bulk; «write_status» = status; cycle = noCycle }
 
 -- the all-zero record
 unfoldable pub zeroRecord : Device
@@ -37,23 +42,13 @@ zeroRecord = delivered 0 0 0 0 0
 unfoldable pub running : Device → ℕ → Device
 running d t = moded d (latchAt t) (Busy t)
 
--- waiting in a mode: fewer ticks than are left fall off, with the latch that belongs to the ticks left; else the cycle ends; without a cycle nothing changes
-abbrev pub waitedIn : Mode → Device → ℕ → Device
-waitedIn Standby d t = d
-waitedIn (Busy left) d t = cond (ltb t left) (running d (left - t)) (moded d false Standby)
-waitedIn Deep d t = d
+-- a cycle begins that takes t ticks
+unfoldable pub started : Device → Cycle → ℕ → Device
+started d c t = running (remembering d c) t
 
--- t ticks later
-unfoldable pub waited : Device → ℕ → Device
-waited d t = waitedIn (d .mode) d t
-
--- after power-up: standby, latch reset, all else kept
-unfoldable pub poweredUp : Device → Device
-poweredUp d = moded d false Standby
-
--- whether two bools are equal
-abbrev pub bothSame : Bool → Bool → Bool
-bothSame a b = cond a b (not b)
+-- standby, latch reset, no cycle
+unfoldable pub ended : Device → Device
+ended d = moded (remembering d noCycle) false Standby
 
 -- whether a duration or a number of ticks left is 1 to 1,000,000
 abbrev pub rangedOf : ℕ → Bool
@@ -64,17 +59,6 @@ abbrev pub modeSound : Mode → Bool → Bool → Bool
 modeSound Standby latch sleeps = true
 modeSound (Busy left) latch sleeps = rangedOf left && bothSame latch (latchAt left)
 modeSound Deep latch sleeps = sleeps
-
--- whether a record is sound
-unfoldable pub sound : Device → Bool
-sound d =
-    knownPart (d .part)
-    && leb (d .bp) (figuresOf (d .part) .«highest_bp»)
-    && rangedOf (d .program)
-    && rangedOf (d .«sector_erase»)
-    && rangedOf (d .«bulk_erase»)
-    && rangedOf (d .«write_status»)
-    && modeSound (d .mode) (d .latch) (figuresOf (d .part) .sleeps)
 
 -- whether a cycle runs
 abbrev pub isBusy : Mode → Bool
@@ -88,18 +72,18 @@ isDeep Standby = false
 isDeep (Busy left) = false
 isDeep Deep = true
 
+-- whether a record is sound
+unfoldable pub sound : Device → Bool
+sound d =
+    knownPart (d .part)
+    && leb (d .bp) (figuresOf (d .part) .«highest_bp»)
+    && rangedOf (d .program)
+    && rangedOf (d .«sector_erase»)
+    && rangedOf (d .«bulk_erase»)
+    && rangedOf (d .«write_status»)
+    && modeSound (d .mode) (d .latch) (figuresOf (d .part) .sleeps)
+    && cycleSound (d .cycle) (figuresOf (d .part)) (isBusy (d .mode))
+
 -- the status byte: bit 7 SRWD, bits 4 to 2 BP (its three lowest bits, if it had more), bit 1 the latch, bit 0 set while busy
 unfoldable pub statusByte : Device → ℕ
 statusByte d = cond (d .srwd) 128 0 + 4 * (d .bp % 8) + cond (d .latch) 2 0 + cond (isBusy (d .mode)) 1 0
-
--- 6 where the record is not sound, else 0
-unfoldable pub soundAnswer : Device → ℕ
-soundAnswer d = cond (sound d) 0 6
-
--- waiting t ticks
-unfoldable pub waitCall : Device → ℕ → Checked
-waitCall d t = record { answer = soundAnswer d; device = onZero (soundAnswer d) (waited d t) d }
-
--- power-up
-unfoldable pub powerUpCall : Device → Checked
-powerUpCall d = record { answer = soundAnswer d; device = onZero (soundAnswer d) (poweredUp d) d }

@@ -1,20 +1,27 @@
--- The packing of a record, and reading it back.
+-- The packing of a record, and reading it back: 28 bytes of the record, then 8 and the 256 slots of its cycle.
 use mathlib.Core.Path.{_≡_}
 use mathlib.Core.Bool.{Bool, cond, _&&_}
 use mathlib.Core.List.{List, [], _∷_, _++_}
 use Prim.Native.Nat.{ℕ}
 use lib.Dec.{eqb}
-use lib.ListN.{length, getD}
+use lib.ListN.{length, getD, drop}
 use Rattle.slices.specs.Bytes.{sameBytes, word, wordAt}
 use Rattle.device.specs.declared.Mode.{Mode}
 use Rattle.device.specs.declared.Mode.the-variants.{Standby, Busy, Deep}
 use Rattle.device.specs.declared.Device.{Device}
 use Rattle.device.specs.declared.Checked.{Checked}
+use Rattle.device.specs.declared.cycle.Kind.{Kind}
+use Rattle.device.specs.declared.cycle.Kind.the-variants.{Idle, Page, Sector, All, Settings}
+use Rattle.device.specs.declared.cycle.Cycle.{Cycle}
 use Rattle.device.specs.Device.{sound, zeroRecord, onZero}
 
 -- how many bytes a packing has
 abbrev pub packedLength : ℕ
-packedLength = 28
+packedLength = 292
+
+-- how many of them come before the slots
+abbrev pub frontLength : ℕ
+frontLength = 36
 
 -- 1 for true, 0 for false
 abbrev pub bit : Bool → ℕ
@@ -36,23 +43,49 @@ ticksOf Deep = 0
 abbrev pub modeOf : ℕ → ℕ → Mode
 modeOf number ticks = cond (eqb number 1) (Busy ticks) (cond (eqb number 2) Deep Standby)
 
+-- the kind byte
+abbrev pub kindNumber : Kind → ℕ
+kindNumber Idle = 0
+kindNumber Page = 1
+kindNumber Sector = 2
+kindNumber All = 3
+kindNumber Settings = 4
+
+-- the kind of a kind byte
+abbrev pub kindOf : ℕ → Kind
+kindOf number = cond (eqb number 1) Page (cond (eqb number 2) Sector (cond (eqb number 3) All (cond (eqb number 4) Settings Idle)))
+
 -- the first eight bytes: part, BP, SRWD, latch, mode, three zero bytes
 abbrev pub headOf : Device → List ℕ
 headOf d = d .part ∷ d .bp ∷ bit (d .srwd) ∷ bit (d .latch) ∷ modeNumber (d .mode) ∷ 0 ∷ 0 ∷ 0 ∷ []
 
--- the packing: these, then ticks left and the four durations
-unfoldable pub packOf : Device → List ℕ
-packOf d =
+-- bytes 28 to 31: the cycle's kind, its new BP and SRWD, a zero byte
+abbrev pub cycleHead : Cycle → List ℕ
+cycleHead c = kindNumber (c .kind) ∷ c .bp ∷ bit (c .srwd) ∷ 0 ∷ []
+
+-- what comes before the slots: the first eight, ticks left and the four durations, the cycle's four and its address
+unfoldable pub frontOf : Device → List ℕ
+frontOf d =
     headOf d
     ++ (word (ticksOf (d .mode))
     ++ (word (d .program)
     ++ (word (d .«sector_erase»)
     ++ (word (d .«bulk_erase»)
-    ++ word (d .«write_status»)))))
+    ++ (word (d .«write_status»)
+    ++ (cycleHead (d .cycle)
+    ++ word (d .cycle .address)))))))
+
+-- the packing: these, then the slots
+unfoldable pub packOf : Device → List ℕ
+packOf d = frontOf d ++ d .cycle .slots
+
+-- the cycle whose fields stand in the bytes, whether they are a packing or not
+abbrev pub cycleAt : List ℕ → Cycle
+cycleAt b = record { kind = kindOf (getD b 28 0); address = wordAt b 32; slots = drop frontLength b; bp = getD b 29 0; srwd = eqb (getD b 30 0) 1 }
 
 -- the record whose fields stand in the bytes, whether they are a packing or not
 unfoldable pub fieldsOf : List ℕ → Device
-fieldsOf b = record { part = getD b 0 0; bp = getD b 1 0; srwd = eqb (getD b 2 0) 1; latch = eqb (getD b 3 0) 1; mode = modeOf (getD b 4 0) (wordAt b 8); program = wordAt b 12; «sector_erase» = wordAt b 16; «bulk_erase» = wordAt b 20; «write_status» = wordAt b 24 }
+fieldsOf b = record { part = getD b 0 0; bp = getD b 1 0; srwd = eqb (getD b 2 0) 1; latch = eqb (getD b 3 0) 1; mode = modeOf (getD b 4 0) (wordAt b 8); program = wordAt b 12; «sector_erase» = wordAt b 16; «bulk_erase» = wordAt b 20; «write_status» = wordAt b 24; cycle = cycleAt b }
 
 -- whether bytes are the packing of the record whose fields stand in them
 unfoldable pub formed : List ℕ → Bool

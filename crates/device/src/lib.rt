@@ -1,12 +1,18 @@
 // The device record: its changes, when it is sound, and its status byte.
 ghost use mathlib.Core.Path.{_≡_};
-ghost use Rattle.device.specs.Device.{latchAt, moded, latched, settled, running, waited, poweredUp, zeroRecord, delivered, bothSame, rangedOf, modeSound, sound, isBusy, isDeep, statusByte, waitCall, powerUpCall};
+ghost use Rattle.device.specs.Device.{latchAt, moded, latched, settled, remembering, running, started, ended, zeroRecord, delivered, rangedOf, modeSound, sound, isBusy, isDeep, statusByte};
 
-// What a cycle does, and how long it takes.
+// The cycle that is remembered, what it does, and how long it takes.
 pub mod cycle;
 
 // The bytes that a record is packed in.
 pub mod packing;
+
+// Waiting, power-up and power loss.
+pub mod time;
+
+use cycle::Cycle;
+use cycle::same;
 
 // What the chip is doing: nothing, a cycle with so many ticks left, or deep power-down.
 pub enum Mode {
@@ -15,7 +21,7 @@ pub enum Mode {
     Deep,
 }
 
-// A chip between two transactions. The last four are how many ticks each kind of cycle takes.
+// A chip between two transactions. The four before the last are how many ticks each kind of cycle takes; the last is the cycle that runs.
 pub struct Device {
     pub part: u8,
     pub bp: u8,
@@ -26,6 +32,7 @@ pub struct Device {
     pub sector_erase: u32,
     pub bulk_erase: u32,
     pub write_status: u32,
+    pub cycle: Cycle,
 }
 
 // The answer of a call that checks its record, and the record handed back.
@@ -39,13 +46,6 @@ fn latch_at(t: u32) -> bool
     ensures { λ r. ⌜ r ≡ latchAt t ⌝ }
 {
     1 < t
-}
-
-// Whether two bools are equal.
-fn same(a: bool, b: bool) -> bool
-    ensures { λ r. ⌜ r ≡ bothSame a b ⌝ }
-{
-    if a { b } else { !b }
 }
 
 // Whether a duration or a number of ticks left is 1 to 1,000,000.
@@ -93,6 +93,7 @@ impl Device {
     pub fn moded(self, latch: bool, mode: Mode) -> Self
         ensures { λ r. ⌜ r ≡ moded self latch mode ⌝ }
     {
+        let cycle = self.cycle;
         Device {
             part: self.part,
             bp: self.bp,
@@ -103,6 +104,7 @@ impl Device {
             sector_erase: self.sector_erase,
             bulk_erase: self.bulk_erase,
             write_status: self.write_status,
+            cycle,
         }
     }
 
@@ -123,37 +125,33 @@ impl Device {
         self
     }
 
+    // Another remembered cycle.
+    fn remembering(mut self, cycle: Cycle) -> Self
+        ensures { λ r. ⌜ r ≡ remembering self cycle ⌝ }
+    {
+        self.cycle = cycle;
+        self
+    }
+
     // Busy with `t` ticks left.
-    pub fn running(self, t: u32) -> Self
+    fn running(self, t: u32) -> Self
         ensures { λ r. ⌜ r ≡ running self t ⌝ }
     {
         self.moded(latch_at(t), Mode::Busy(t))
     }
 
-    // `t` ticks later: within a cycle, with the latch that belongs to the ticks left.
-    fn waited(self, t: u32) -> Self
-        ensures { λ r. ⌜ r ≡ waited self t ⌝ }
+    // A cycle begins that takes `t` ticks.
+    pub fn started(self, cycle: Cycle, t: u32) -> Self
+        ensures { λ r. ⌜ r ≡ started self cycle t ⌝ }
     {
-        let mode = self.mode;
-        match mode {
-            Mode::Standby => self,
-            Mode::Busy(left) => {
-                if t < left {
-                    self.running(left - t)
-                } else {
-                    self.moded(false, Mode::Standby)
-                }
-            }
-            Mode::Deep => self,
-        }
+        self.remembering(cycle).running(t)
     }
 
-    // After power-up.
-    fn powered_up(self) -> Self
-        ensures { λ r. ⌜ r ≡ poweredUp self ⌝ }
+    // Standby, with the latch reset and no cycle.
+    fn ended(self) -> Self
+        ensures { λ r. ⌜ r ≡ ended self ⌝ }
     {
-        let standby = Mode::Standby;
-        self.moded(false, standby)
+        self.remembering(Cycle::none()).moded(false, Mode::Standby)
     }
 
     // The all-zero record, which is not sound.
@@ -173,6 +171,7 @@ impl Device {
     ) -> Self
         ensures { λ r. ⌜ r ≡ delivered part program «sector_erase» «bulk_erase» «write_status» ⌝ }
     {
+        let cycle = Cycle::none();
         Device {
             part,
             bp: 0,
@@ -183,6 +182,7 @@ impl Device {
             sector_erase,
             bulk_erase,
             write_status,
+            cycle,
         }
     }
 
@@ -197,7 +197,9 @@ impl Device {
         let bulk_erase = ranged(self.bulk_erase);
         let write_status = ranged(self.write_status);
         let mode = self.mode;
+        let cycle = self.cycle;
         let fits = mode_sound(mode, self.latch, figures.sleeps);
+        let whole = cycle.sound(figures, is_busy(mode));
         known
             & (self.bp <= figures.highest_bp)
             & program
@@ -205,6 +207,7 @@ impl Device {
             & bulk_erase
             & write_status
             & fits
+            & whole
     }
 
     // The status byte: bit 7 SRWD, bits 4 to 2 BP, bit 1 the latch, bit 0 set while busy.
@@ -216,41 +219,5 @@ impl Device {
         let mode = self.mode;
         let busy = slices::when(is_busy(mode), 1, 0);
         srwd + 4 * (self.bp % 8) + latch + busy
-    }
-
-    // Waits `t` ticks: 0 and the record afterwards, or 6 and the record as it came where it is not sound.
-    pub fn wait(self, t: u32) -> Checked
-        ensures { λ r. ⌜ r ≡ waitCall self t ⌝ }
-    {
-        if self.sound() {
-            let next = self.waited(t);
-            Checked {
-                answer: 0,
-                device: next,
-            }
-        } else {
-            Checked {
-                answer: 6,
-                device: self,
-            }
-        }
-    }
-
-    // Powers up: 0 and the record afterwards, or 6 and the record as it came where it is not sound.
-    pub fn power_up(self) -> Checked
-        ensures { λ r. ⌜ r ≡ powerUpCall self ⌝ }
-    {
-        if self.sound() {
-            let next = self.powered_up();
-            Checked {
-                answer: 0,
-                device: next,
-            }
-        } else {
-            Checked {
-                answer: 6,
-                device: self,
-            }
-        }
     }
 }

@@ -1,14 +1,20 @@
 // The record packed in bytes, and read back.
 ghost use mathlib.Core.Path.{_≡_};
+ghost use lib.ListN.{length, take, drop};
 ghost use Rattle.slices.specs.Bytes.{sameBytes};
 ghost use Rattle.slices.specs.Changed.{mapAt, stored};
-ghost use Rattle.device.specs.Packing.{modeNumber, ticksOf, modeOf, headOf, packOf, fieldsOf, Packed, unpackOf};
+ghost use Rattle.device.specs.Packing.{packedLength, frontLength, modeNumber, ticksOf, modeOf, kindNumber, kindOf, headOf, cycleHead, frontOf, packOf, cycleAt, fieldsOf, Packed, unpackOf};
 use crate::Checked;
 use crate::Device;
 use crate::Mode;
+use crate::cycle::Cycle;
+use crate::cycle::Kind;
 
 // How many bytes a packing has.
-pub const LENGTH: usize = 28;
+pub const LENGTH: usize = 292;
+
+// How many of them come before the slots.
+const FRONT: usize = 36;
 
 // The mode byte.
 fn mode_number(mode: Mode) -> u8
@@ -43,6 +49,32 @@ fn mode_of(number: u8, ticks: u32) -> Mode
     }
 }
 
+// The kind byte.
+fn kind_number(kind: Kind) -> u8
+    ensures { λ r. ⌜ r ≡ kindNumber kind ⌝ }
+{
+    match kind {
+        Kind::Idle => 0,
+        Kind::Page => 1,
+        Kind::Sector => 2,
+        Kind::All => 3,
+        Kind::Settings => 4,
+    }
+}
+
+// The kind of a kind byte.
+fn kind_of(number: u8) -> Kind
+    ensures { λ r. ⌜ r ≡ kindOf number ⌝ }
+{
+    match number {
+        1 => Kind::Page,
+        2 => Kind::Sector,
+        3 => Kind::All,
+        4 => Kind::Settings,
+        _ => Kind::Idle,
+    }
+}
+
 // The first eight bytes: part, BP, SRWD, latch, mode, three zero bytes.
 fn head_bytes(d: Device) -> [u8; 8]
     ensures { λ r. ⌜ r ≡ headOf d ⌝ }
@@ -60,22 +92,77 @@ fn head_bytes(d: Device) -> [u8; 8]
     ]
 }
 
-// The packing written to the front of `out`, part by part.
-fn write(d: Device, out: &mut [u8])
-    ensures { λ _. ⌜ now (out .exit) ≡ mapAt (stored 0 (packOf d)) (now (out .entry)) ⌝ }
+// Bytes 28 to 31: the cycle's kind, its new BP and SRWD, a zero byte.
+fn cycle_bytes(cycle: Cycle) -> [u8; 4]
+    ensures { λ r. ⌜ r ≡ cycleHead cycle ⌝ }
+{
+    let kind = cycle.kind;
+    [
+        kind_number(kind),
+        cycle.bp,
+        slices::when(cycle.srwd, 1, 0),
+        0,
+    ]
+}
+
+// What comes before the slots written to the front of `out`, part by part.
+fn write_front(d: Device, out: &mut [u8])
+    ensures { λ _. ⌜ now (out .exit) ≡ mapAt (stored 0 (frontOf d)) (now (out .entry)) ⌝ }
 {
     let mode = d.mode;
+    let cycle = d.cycle;
     let head = head_bytes(d);
+    let middle = cycle_bytes(cycle);
     slices::store(out, 0, &head);
     slices::store_word(out, 8, ticks_of(mode));
     slices::store_word(out, 12, d.program);
     slices::store_word(out, 16, d.sector_erase);
     slices::store_word(out, 20, d.bulk_erase);
     slices::store_word(out, 24, d.write_status);
+    slices::store(out, 28, &middle);
+    slices::store_word(out, 32, cycle.address);
+}
+
+// The packing written to the front of `out`, whatever the record: what comes before the slots, then the slots.
+pub fn write(d: Device, out: &mut [u8])
+    ensures { λ _. ⌜ now (out .exit) ≡ mapAt (stored 0 (packOf d)) (now (out .entry)) ⌝ }
+{
+    let cycle = d.cycle;
+    let slots = cycle.slots;
+    write_front(d, out);
+    slices::store(out, FRONT, &slots);
+}
+
+// The slots of a packing.
+fn slots_in(b: &[u8]) -> [u8; 256]
+    requires { ⌜ length (now b) ≡ packedLength ⌝ }
+    ensures { λ r. ⌜ r ≡ drop frontLength (now (b .entry)) ⌝ }
+{
+    let mut slots = [0; 256];
+    slices::store(&mut slots, 0, &b[FRONT..]);
+    slots
+}
+
+// The cycle whose fields stand in the bytes, whether they are a packing or not.
+fn cycle_in(b: &[u8]) -> Cycle
+    requires { ⌜ length (now b) ≡ packedLength ⌝ }
+    ensures { λ r. ⌜ r ≡ cycleAt (now (b .entry)) ⌝ }
+{
+    let kind = kind_of(slices::byte_at(b, 28));
+    let address = slices::word_at(b, 32);
+    let slots = slots_in(b);
+    Cycle {
+        kind,
+        address,
+        slots,
+        bp: slices::byte_at(b, 29),
+        srwd: slices::byte_at(b, 30) == 1,
+    }
 }
 
 // The record whose fields stand in the bytes, whether they are a packing or not.
 fn fields(b: &[u8]) -> Device
+    requires { ⌜ length (now b) ≡ packedLength ⌝ }
     ensures { λ r. ⌜ r ≡ fieldsOf (now (b .entry)) ⌝ }
 {
     let mode = mode_of(slices::byte_at(b, 4), slices::word_at(b, 8));
@@ -83,6 +170,7 @@ fn fields(b: &[u8]) -> Device
     let sector_erase = slices::word_at(b, 16);
     let bulk_erase = slices::word_at(b, 20);
     let write_status = slices::word_at(b, 24);
+    let cycle = cycle_in(b);
     Device {
         part: slices::byte_at(b, 0),
         bp: slices::byte_at(b, 1),
@@ -93,16 +181,17 @@ fn fields(b: &[u8]) -> Device
         sector_erase,
         bulk_erase,
         write_status,
+        cycle,
     }
 }
 
-// Whether bytes are the packing of a record.
-fn packs_to(d: Device, b: &[u8]) -> bool
-    ensures { λ r. ⌜ r ≡ sameBytes (now (b .entry)) (packOf d) ⌝ }
+// Whether bytes begin as the packing of a record does, up to the slots.
+fn begins_as(d: Device, b: &[u8]) -> bool
+    ensures { λ r. ⌜ r ≡ sameBytes (take frontLength (now (b .entry))) (frontOf d) ⌝ }
 {
-    let mut again = [0; LENGTH];
-    write(d, &mut again);
-    slices::same(b, &again)
+    let mut again = [0; FRONT];
+    write_front(d, &mut again);
+    slices::same(slices::front(b, FRONT), &again)
 }
 
 // Packs a record: 8 where `out` is not of `LENGTH` bytes, 6 where the record is not sound, with nothing written; else 0.
@@ -130,7 +219,7 @@ pub fn unpack(packed: &[u8]) -> Checked
         };
     }
     let d = fields(packed);
-    let formed = packs_to(d, packed);
+    let formed = begins_as(d, packed);
     let sound = d.sound();
     if formed & sound {
         Checked {

@@ -16,7 +16,7 @@ use Rattle.parts.specs.declared.Figures.{Figures}
 use Rattle.parts.specs.Parts.{figuresOf}
 use Rattle.parts.proofs.Laws.{Sane, sane, in-sector}
 use Rattle.device.specs.declared.Device.{Device}
-use Rattle.device.specs.Cycles.{touched}
+use Rattle.device.specs.Cycles.{pageCycle, sectorCycle, allCycle, touched}
 use Rattle.chip.specs.Table.{rowOf, addressOf}
 use Rattle.chip.specs.Change.{cycleOf, changed, asItWas}
 use Rattle.chip.proofs.Rules.{changed-byte}
@@ -35,7 +35,7 @@ pub data Acts (f : Figures) (c : ℕ) (sent : List ℕ) (i : ℕ) : Type 0 where
       → ((x : ℕ) → changed (rowOf f c .turn) f (addressOf f sent) sent i x ≡ cond q 255 x) → Acts f c sent i
 
 acts : (f : Figures) → Sane f → (sent : List ℕ) (i c : ℕ) → eqb c 0x02 || (eqb c 0xD8 || eqb c 0xC7) ≡ true → Acts f c sent i
-unfolding rowOf changed cycleOf touched programmed erased
+unfolding rowOf changed cycleOf pageCycle sectorCycle allCycle touched programmed erased
 acts f s sent i =
     codes-ind (λ (c : ℕ). Acts f c sent i)
     (andsIn refl (eqb (i / 256) (addressOf f sent / 256)) (getD (filled blank (addressOf f sent) (drop 4 sent)) (i % 256) 0)
@@ -133,7 +133,7 @@ touched-own : (f : Figures) (sent : List ℕ) (i x : ℕ) → x < 256 → (c : �
     ≡ cond (eqb c 0xC7 || (eqb c 0xD8 && eqb (i / f .«sector_bytes») (addressOf f sent / f .«sector_bytes»))) 0xFF
     (ands x
     (cond (eqb c 0x02 && (eqb (i / 256) (addressOf f sent / 256) && reached (addressOf f sent) (drop 4 sent) (i % 256))) (landed (addressOf f sent) (drop 4 sent) (i % 256) 255 ∷ []) []))
-unfolding rowOf changed cycleOf touched erased
+unfolding rowOf changed cycleOf pageCycle sectorCycle allCycle touched erased
 touched-own f sent i x lt =
     codes-ind
     (λ (c : ℕ).

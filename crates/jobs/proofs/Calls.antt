@@ -7,7 +7,8 @@ use Prim.Native.Nat.{ℕ, zero, suc, _≤_}
 use lib.ListN.{length}
 use Rattle.device.specs.declared.Device.{Device}
 use Rattle.device.specs.declared.Checked.{Checked}
-use Rattle.device.specs.Device.{waitCall}
+use Rattle.device.specs.Chip.{chip}
+use Rattle.device.specs.Time.{Handed, waitCall}
 use Rattle.chip.specs.declared.Answer.{Answer}
 use Rattle.chip.specs.Answers.{hostNumber}
 use Rattle.chip.specs.Outcome.{Outcome, bare, outcomeOf, Transacted}
@@ -24,19 +25,19 @@ module _ (d : Device) (xs sent : List ℕ) (p : ℕ) (w : Bool) (r : List ℕ) w
   job-refused (suc k) e h = rw (← e) (record { answer = refl; device = refl; memory = refl; line = refl })
 
   -- none: the four calls, one after the other
-  pub job-passes : {on : Device} {ys : List ℕ} {a : Answer} {going : Device} {zs r′ : List ℕ} {rest : Checked} {next : Device} {end : List ℕ} (t : ℕ)
+  pub job-passes : {on : Device} {ys : List ℕ} {a : Answer} {going : Device} {zs r′ : List ℕ} {rest : Checked} {us : List ℕ} {next : Device} {end : List ℕ} (t : ℕ)
       → hostNumber d (length xs) (length sent) p (length r) ≡ 0 → t ≡ longestCycle d
       → on ≡ alone d xs 0x06 w .device → ys ≡ alone d xs 0x06 w .array
       → Transacted on ys sent p w r a going zs r′
-      → rest ≡ waitCall going t
-      → next ≡ alone (rest .device) zs 0x04 w .device → end ≡ alone (rest .device) zs 0x04 w .array
+      → Handed (waitCall (chip going zs) t) rest us
+      → next ≡ alone (rest .device) us 0x04 w .device → end ≡ alone (rest .device) us 0x04 w .array
       → Jobbed d xs sent p w r a next end r′
   unfolding jobbed
   job-passes t h et eo ey m er en ee =
       rw h (record {
         answer = m .answer ∙ rw (eo, ey);
-        device = en ∙ rw (er, m .device, m .memory, et, eo, ey);
-        memory = ee ∙ rw (er, m .device, m .memory, et, eo, ey);
+        device = en ∙ rw (er .device, er .memory, m .device, m .memory, et, eo, ey);
+        memory = ee ∙ rw (er .device, er .memory, m .device, m .memory, et, eo, ey);
         line = m .line ∙ rw (eo, ey);
       })
 

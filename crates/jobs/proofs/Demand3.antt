@@ -11,7 +11,9 @@ use Rattle.parts.specs.Parts.{figuresOf}
 use Rattle.device.specs.declared.Mode.{Mode}
 use Rattle.device.specs.declared.Mode.the-variants.{Standby}
 use Rattle.device.specs.declared.Device.{Device}
-use Rattle.device.specs.Device.{sound, moded}
+use Rattle.device.specs.declared.cycle.Cycle.{Cycle}
+use Rattle.device.specs.Device.{sound, moded, remembering}
+use Rattle.device.proofs.Sound.{idle-cycle}
 use Rattle.chip.specs.Events.{Chip}
 use Rattle.jobs.specs.Jobs.{Job, Entry, runJobs, history, AtRest, AllFormed, ExecutedOr15Or17, AllAnswer}
 use Rattle.jobs.specs.Formula.{endsAs}
@@ -69,13 +71,14 @@ formed-swap : (xs ys : List Job) (a b : Job) → AllFormed (xs ++ (a ∷ b ∷ y
 formed-swap [] ys a b w = (w .1 .0, (w .0, w .1 .1))
 formed-swap (x ∷ xs) ys a b w = (w .0, formed-swap xs ys a b (w .1))
 
-at-rest : (c : Chip) → c .device .mode ≡ Standby → c ≡ chip (resting (c .device) (c .device .latch)) (c .array)
-unfolding moded
-at-rest c h = ap (λ (m : Mode). chip (moded (c .device) (c .device .latch) m) (c .array)) h
+at-rest : (c : Chip) → AtRest c → c ≡ chip (resting (c .device) (c .device .latch)) (c .array)
+unfolding moded remembering
+at-rest c r =
+    ap₂ (λ (m : Mode) (k : Cycle). chip (moded (remembering (c .device) k) (c .device .latch) m) (c .array)) (r .standby) (idle-cycle (c .device) (r .good .sound) (rw (r .standby)))
 
 runs-to : (c : Chip) → AtRest c → (js : List Job) → AllFormed js
     → runJobs js c ≡ chip (resting (c .device) (lastLatch (c .device .latch) js)) (mapAt (through (c .device) js) (c .array))
-runs-to c r js w = ap (runJobs js) (at-rest c (r .standby)) ∙ run-is (c .device) (r .good .sound) js (c .array) (c .device .latch) (r .good .whole) w
+runs-to c r js w = ap (runJobs js) (at-rest c r) ∙ run-is (c .device) (r .good .sound) js (c .array) (c .device .latch) (r .good .whole) w
 
 -- ---- the theorems
 
@@ -94,20 +97,22 @@ pub byte-ends : (c : Chip) → AtRest c → (js : List Job) → AllFormed js →
 byte-ends c r js w i h lt =
     ap (λ (e : Chip). getD (e .array) i 0) (runs-to c r js w) ∙ getD-map (through (c .device) js) (c .array) i 0 h ∙ ends (c .device) i js w (getD (c .array) i 0) lt
     ∙ ap (λ (rs : List Entry). endsAs (figuresOf (c .device .part)) i rs (getD (c .array) i 0))
-    (sym (ap (history js) (at-rest c (r .standby)) ∙ history-is (c .device) (r .good .sound) js (c .array) (c .device .latch) (r .good .whole) w))
+    (sym (ap (history js) (at-rest c r) ∙ history-is (c .device) (r .good .sound) js (c .array) (c .device .latch) (r .good .whole) w))
 
 -- after at least one job the record is in standby with the latch reset, and all else in it is as it was
 pub record-ends : (c : Chip) → AtRest c → (j : Job) (js : List Job) → AllFormed (j ∷ js) → runJobs (j ∷ js) c .device ≡ moded (c .device) false Standby
-record-ends c r j js w = ap (λ (e : Chip). e .device) (runs-to c r (j ∷ js) w)
+unfolding moded remembering
+record-ends c r j js w =
+    ap (λ (e : Chip). e .device) (runs-to c r (j ∷ js) w) ∙ ap (λ (k : Cycle). moded (remembering (c .device) k) false Standby) (sym (idle-cycle (c .device) (r .good .sound) (rw (r .standby))))
 
 -- no host-side number answers any call of the run: write enable, wait and write disable answer 0, the program or erase 0, 15 or 17
 pub answers-are : (c : Chip) → AtRest c → (js : List Job) → AllFormed js → AllAnswer js c
 answers-are c r js w =
-    subst (AllAnswer js) (sym (at-rest c (r .standby))) (all-answer (c .device) (r .good .sound) js (c .array) (c .device .latch) (r .good .whole) w)
+    subst (AllAnswer js) (sym (at-rest c r)) (all-answer (c .device) (r .good .sound) js (c .array) (c .device .latch) (r .good .whole) w)
 
 -- a list ends where a list may start
 pub rests-again : (c : Chip) → AtRest c → (js : List Job) → AllFormed js → AtRest (runJobs js c)
-unfolding moded
+unfolding moded remembering
 rests-again c r js w =
     subst AtRest (sym (runs-to c r js w))
     (record {

@@ -10,30 +10,31 @@ use borrow.Author.Tests.{eqb-true}
 use lib.Dec.{eqb, ltb, eqb·suc-zero}
 use lib.ListN.{length, getD, replicate, length-replicate}
 use Rattle.slices.specs.Changed.{mapAt}
-use Rattle.slices.proofs.Choices.{cond-ind}
 use Rattle.slices.proofs.Maps.{map-same, length-map}
 use Rattle.parts.specs.declared.Figures.{Figures}
 use Rattle.parts.specs.Parts.{figuresOf}
 use Rattle.device.specs.declared.Mode.the-variants.{Standby}
 use Rattle.device.specs.declared.Device.{Device}
-use Rattle.device.specs.Device.{sound, rangedOf, moded, latched, running, waited, soundAnswer, waitCall}
-use Rattle.device.proofs.Sound.{sound-has, standby-sound, running-sound}
+use Rattle.device.specs.declared.cycle.Kind.the-variants.{Page, Sector, All}
+use Rattle.device.specs.declared.cycle.Cycle.{Cycle}
+pub use Rattle.device.specs.Chip.{chip}
+use Rattle.device.specs.Cycles.{usesOf, noCycle, pageCycle, sectorCycle, allCycle, touched}
+use Rattle.device.specs.Device.{sound, moded, latched, remembering, running, started, ended}
+use Rattle.device.specs.Time.{afterCycle, finished, waited, waitCall}
+use Rattle.device.proofs.Sound.{standby-sound}
+use Rattle.device.proofs.Timed.{time-next}
 use Rattle.device.proofs.Waiting.{cycle-ends}
 use Rattle.chip.specs.Table.{rowOf, addressOf, rowIn}
 use Rattle.chip.specs.Answers.{hostNumber, chipNumber, asNeeded, inProtected, decided, verdictOf}
-use Rattle.chip.specs.Change.{changed, asItWas, turned}
+use Rattle.chip.specs.Change.{cycleOf, changed, asItWas, turned}
 use Rattle.chip.specs.Outcome.{Outcome, outcomeOf, transacted}
 use Rattle.chip.specs.Events.{Chip, sends, sent, after, reply, run}
-use Rattle.chip.proofs.Events.{no-refusal}
+use Rattle.chip.proofs.Events.{no-refusal, after-sound}
 use Rattle.jobs.specs.Jobs.{Job, longestCycle, enable, carry, rest, disable, afterJob, answered, code, WellFormed, ExecutedOr15Or17}
 
--- the record in standby, with the latch as given
+-- the record in standby, with the latch as given and no cycle
 abbrev pub resting : Device → Bool → Device
-resting d l = moded d l Standby
-
--- a record and its array
-abbrev pub chip : Device → List ℕ → Chip
-chip d xs = record { device = d; array = xs }
+resting d l = moded (remembering d noCycle) l Standby
 
 -- ---- soundness
 
@@ -42,7 +43,7 @@ rest-sound d l s = standby-sound d l s
 
 -- ---- a call that no host-side number answers
 
--- what the bytes do to each byte of the array where they are executed
+-- what the bytes do to each byte of the array where they are executed, once their cycle is completed
 abbrev pub own : Figures → List ℕ → ℕ → ℕ → ℕ
 own f sent = changed (rowOf f (getD sent 0 0) .turn) f (addressOf f sent) sent
 
@@ -56,19 +57,19 @@ module _ (d : Device) (xs sent r : List ℕ) (k : ℕ) where
       go true e = rw e (sym (eqb-true k 0 e))
       go false e = rw e
 
-  pub array-is : outcomeOf (decided 0 k) d xs sent r .array ≡ mapAt (cond (eqb k 0) (own (figuresOf (d .part)) sent) asItWas) xs
+  pub array-is : outcomeOf (decided 0 k) d xs sent r .array ≡ xs
   unfolding outcomeOf decided
   array-is = go (eqb k 0) refl
     where
-      go : (b : Bool) → eqb k 0 ≡ b → outcomeOf (decided 0 k) d xs sent r .array ≡ mapAt (cond (eqb k 0) (own (figuresOf (d .part)) sent) asItWas) xs
+      go : (b : Bool) → eqb k 0 ≡ b → outcomeOf (decided 0 k) d xs sent r .array ≡ xs
       go true e = rw e
-      go false e = rw e (sym (map-same xs))
+      go false e = rw e
 
-  pub device-is : outcomeOf (decided 0 k) d xs sent r .device ≡ cond (eqb k 0) (turned (rowIn d sent .turn) (figuresOf (d .part)) d (getD sent 1 0)) d
+  pub device-is : outcomeOf (decided 0 k) d xs sent r .device ≡ cond (eqb k 0) (turned (rowIn d sent .turn) (figuresOf (d .part)) d (addressOf (figuresOf (d .part)) sent) sent) d
   unfolding outcomeOf decided
   device-is = go (eqb k 0) refl
     where
-      go : (b : Bool) → eqb k 0 ≡ b → outcomeOf (decided 0 k) d xs sent r .device ≡ cond (eqb k 0) (turned (rowIn d sent .turn) (figuresOf (d .part)) d (getD sent 1 0)) d
+      go : (b : Bool) → eqb k 0 ≡ b → outcomeOf (decided 0 k) d xs sent r .device ≡ cond (eqb k 0) (turned (rowIn d sent .turn) (figuresOf (d .part)) d (addressOf (figuresOf (d .part)) sent) sent) d
       go true e = rw e
       go false e = rw e
 
@@ -90,41 +91,33 @@ codes-ind P p q r c h = go (eqb c 0x02) refl (eqb c 0xD8) refl (eqb c 0xC7) refl
     go false e false e′ true e″ h = subst P (sym (eqb-true c 0xC7 e″)) r
     go false e false e′ false e″ h = absurd (false≢true h)
 
--- the record after an executed program or erase is busy, and not for longer than the longest cycle
-turned-cases : (d : Device) → sound d ≡ true → (P : Device → Type 0) → ((t : ℕ) → rangedOf t ≡ true → t ≤ longestCycle d → P (running (resting d true) t))
-    → (b c : ℕ) → eqb c 0x02 || (eqb c 0xD8 || eqb c 0xC7) ≡ true → P (turned (rowOf (figuresOf (d .part)) c .turn) (figuresOf (d .part)) (resting d true) b)
-unfolding rowOf turned moded
-turned-cases d s P h b =
-    codes-ind (λ (c : ℕ). P (turned (rowOf (figuresOf (d .part)) c .turn) (figuresOf (d .part)) (resting d true) b)) (h (d .program) (sound-has d s .program-fits) (omega arith))
-    (h (d .«sector_erase») (sound-has d s .sector-fits) (omega arith)) (h (d .«bulk_erase») (sound-has d s .bulk-fits) (omega arith))
-
 -- ---- write enable and write disable, from standby
 
 module _ (d : Device) (s : sound d ≡ true) (xs : List ℕ) (z : length xs ≡ figuresOf (d .part) .bytes) (l w : Bool) where
   -- one byte alone, without further pulses, is not refused
   passes : hostNumber (resting d l) (length xs) 1 0 1 ≡ 0
-  unfolding moded
+  unfolding moded remembering
   passes = no-refusal (resting d l) (length xs) 1 0 1 (rest-sound d l s) z (omega arith) (omega arith) (omega arith)
 
   wren-goes : sent (chip (resting d l) xs) (0x06 ∷ []) 0 w ≡ outcomeOf (decided 0 0) (resting d l) xs (0x06 ∷ []) (0 ∷ [])
-  unfolding sent chipNumber rowOf asNeeded moded
+  unfolding sent chipNumber rowOf asNeeded moded remembering
   wren-goes = called (resting d l) xs (0x06 ∷ []) 0 w (0 ∷ []) passes
 
   wrdi-goes : sent (chip (resting d l) xs) (0x04 ∷ []) 0 w ≡ outcomeOf (decided 0 0) (resting d l) xs (0x04 ∷ []) (0 ∷ [])
-  unfolding sent chipNumber rowOf asNeeded moded
+  unfolding sent chipNumber rowOf asNeeded moded remembering
   wrdi-goes = called (resting d l) xs (0x04 ∷ []) 0 w (0 ∷ []) passes
 
   pub wren-is : after (sends (0x06 ∷ []) 0 w) (chip (resting d l) xs) ≡ chip (resting d true) xs
-  unfolding outcomeOf decided turned changed rowOf latched moded
-  wren-is = ap₂ chip (ap (λ (o : Outcome). o .device) wren-goes) (ap (λ (o : Outcome). o .array) wren-goes ∙ map-same xs)
+  unfolding outcomeOf decided turned rowOf latched moded remembering
+  wren-is = ap₂ chip (ap (λ (o : Outcome). o .device) wren-goes) (ap (λ (o : Outcome). o .array) wren-goes)
 
   pub wren-number : reply (sends (0x06 ∷ []) 0 w) (chip (resting d l) xs) .answer .number ≡ 0
   unfolding outcomeOf decided
   wren-number = ap (λ (o : Outcome). o .answer .number) wren-goes
 
   pub wrdi-is : after (sends (0x04 ∷ []) 0 w) (chip (resting d l) xs) ≡ chip (resting d false) xs
-  unfolding outcomeOf decided turned changed rowOf latched moded
-  wrdi-is = ap₂ chip (ap (λ (o : Outcome). o .device) wrdi-goes) (ap (λ (o : Outcome). o .array) wrdi-goes ∙ map-same xs)
+  unfolding outcomeOf decided turned rowOf latched moded remembering
+  wrdi-is = ap₂ chip (ap (λ (o : Outcome). o .device) wrdi-goes) (ap (λ (o : Outcome). o .array) wrdi-goes)
 
   pub wrdi-number : reply (sends (0x04 ∷ []) 0 w) (chip (resting d l) xs) .answer .number ≡ 0
   unfolding outcomeOf decided
@@ -132,19 +125,34 @@ module _ (d : Device) (s : sound d ≡ true) (xs : List ℕ) (z : length xs ≡ 
 
 -- ---- the wait
 
--- a wait as long as the longest cycle answers 0 and ends in standby
-abbrev Waits : Device → Device → Type 0
-Waits d e = (waitCall e (longestCycle d) .answer ≡ 0) × ((l : Bool) × (waitCall e (longestCycle d) .device ≡ resting d l))
+-- a wait as long as the longest cycle answers 0, ends in standby, and does g to each byte
+abbrev Waits : Device → Device → List ℕ → (ℕ → ℕ → ℕ) → Type 0
+Waits d e xs g = (waitCall (chip e xs) (longestCycle d) .answer ≡ 0) × ((l : Bool) × (waitCall (chip e xs) (longestCycle d) .chip ≡ chip (resting d l) (mapAt g xs)))
 
-still-waits : (d : Device) → sound d ≡ true → Waits d (resting d true)
-unfolding waitCall soundAnswer waited moded
-still-waits d s = (rw (rest-sound d true s), (true, rw (rest-sound d true s)))
+module _ (d : Device) (xs : List ℕ) (z : length xs ≡ figuresOf (d .part) .bytes) where
+  still-waits : sound d ≡ true → Waits d (resting d true) xs asItWas
+  unfolding waitCall waited moded remembering
+  still-waits s = let n = time-next (resting d true) (length xs) 0 (rest-sound d true s) z in (rw n, (true, rw n (ap (chip (resting d true)) (sym (map-same xs)))))
 
-busy-waits : (d : Device) → sound d ≡ true → (t : ℕ) → rangedOf t ≡ true → t ≤ longestCycle d → Waits d (running (resting d true) t)
-unfolding waitCall soundAnswer moded
-busy-waits d s t r h =
-    let k = running-sound (resting d true) t (rest-sound d true s) r in
-    (rw k, (false, rw k (cycle-ends (resting d true) t (longestCycle d) h)))
+  -- a cycle that is no settings write
+  busy-waits : (c : Cycle) (t : ℕ) → sound (started (resting d true) c t) ≡ true → t ≤ longestCycle d → usesOf (c .kind) .settings ≡ false
+      → Waits d (started (resting d true) c t) xs (touched (figuresOf (d .part)) c)
+  unfolding waitCall started moded remembering running finished afterCycle ended
+  busy-waits c t s h u =
+      let n = time-next (started (resting d true) c t) (length xs) 0 s z in
+      (rw n, (false, rw n (cycle-ends (remembering (resting d true) c) xs t (longestCycle d) h ∙ rw u)))
+
+  -- an executed program or erase
+  turned-waits : (sent : List ℕ) (c : ℕ) → eqb c 0x02 || (eqb c 0xD8 || eqb c 0xC7) ≡ true → let f = figuresOf (d .part) in let at = addressOf f sent in
+      sound (turned (rowOf f c .turn) f (resting d true) at sent) ≡ true → Waits d (turned (rowOf f c .turn) f (resting d true) at sent) xs (changed (rowOf f c .turn) f at sent)
+  unfolding rowOf turned changed cycleOf pageCycle sectorCycle allCycle moded remembering
+  turned-waits sent =
+      let f = figuresOf (d .part) in
+      let at = addressOf f sent in
+      codes-ind (λ (c : ℕ). sound (turned (rowOf f c .turn) f (resting d true) at sent) ≡ true → Waits d (turned (rowOf f c .turn) f (resting d true) at sent) xs (changed (rowOf f c .turn) f at sent))
+      (λ s. busy-waits (cycleOf Page f at sent) (d .program) s (omega arith) refl)
+      (λ s. busy-waits (cycleOf Sector f at sent) (d .«sector_erase») s (omega arith) refl)
+      (λ s. busy-waits (cycleOf All f at sent) (d .«bulk_erase») s (omega arith) refl)
 
 -- ---- the four calls of a job, from standby
 
@@ -157,7 +165,7 @@ abbrev pub effect : Device → Job → ℕ → ℕ → ℕ
 effect d j = cond (eqb (number d j) 0) (own (figuresOf (d .part)) (j .sent)) asItWas
 
 module _ (d : Device) (s : sound d ≡ true) (xs : List ℕ) (z : length xs ≡ figuresOf (d .part) .bytes) (l : Bool) (j : Job) (f : WellFormed j) where
-  -- each byte touched once
+  -- each byte touched once, with the cycle's last tick
   abbrev ys : List ℕ
   ys = mapAt (effect d j) xs
 
@@ -176,7 +184,7 @@ module _ (d : Device) (s : sound d ≡ true) (xs : List ℕ) (z : length xs ≡ 
   zeros = replicate (length (j .sent)) 0
 
   carried : sent (chip (resting d true) xs) (j .sent) (j .pulses) (j .w₂) ≡ outcomeOf (decided 0 (number d j)) (resting d true) xs (j .sent) zeros
-  unfolding sent moded
+  unfolding sent moded remembering
   carried =
       called (resting d true) xs (j .sent) (j .pulses) (j .w₂) zeros
       (no-refusal (resting d true) (length xs) (length (j .sent)) (j .pulses) (length zeros) (rest-sound d true s) z (f .few) (f .pulses) (omega (arith, length-replicate {A = ℕ} (length (j .sent)) 0)))
@@ -186,28 +194,35 @@ module _ (d : Device) (s : sound d ≡ true) (xs : List ℕ) (z : length xs ≡ 
       ap (λ (c : Chip). reply (carry j) c .answer .number) enabled-is ∙ (ap (λ (o : Outcome). o .answer .number) carried ∙ number-is (resting d true) xs (j .sent) zeros (number d j))
 
   abbrev going : Device
-  going = cond (eqb (number d j) 0) (turned (rowIn d (j .sent) .turn) (figuresOf (d .part)) (resting d true) (getD (j .sent) 1 0)) (resting d true)
+  going = cond (eqb (number d j) 0) (turned (rowIn d (j .sent) .turn) (figuresOf (d .part)) (resting d true) (addressOf (figuresOf (d .part)) (j .sent)) (j .sent)) (resting d true)
 
-  carried-is : after (carry j) (chip (resting d true) xs) ≡ chip going ys
-  unfolding moded
+  carried-is : after (carry j) (chip (resting d true) xs) ≡ chip going xs
+  unfolding moded remembering
   carried-is =
       ap₂ chip (ap (λ (o : Outcome). o .device) carried ∙ device-is (resting d true) xs (j .sent) zeros (number d j))
       (ap (λ (o : Outcome). o .array) carried ∙ array-is (resting d true) xs (j .sent) zeros (number d j))
 
-  two-are : run (enable j ∷ carry j ∷ []) (chip (resting d l) xs) ≡ chip going ys
+  two-are : run (enable j ∷ carry j ∷ []) (chip (resting d l) xs) ≡ chip going xs
   two-are = ap (after (carry j)) enabled-is ∙ carried-is
 
   -- call 3
-  going-waits : Waits d going
-  going-waits =
-      cond-ind (Waits d) (eqb (number d j) 0) (turned-cases d s (Waits d) (busy-waits d s) (getD (j .sent) 1 0) (code j) (f .kind)) (still-waits d s)
+  going-sound : sound going ≡ true
+  going-sound = subst (λ (c : Chip). sound (c .device) ≡ true) carried-is (after-sound (carry j) (chip (resting d true) xs) (rest-sound d true s))
+
+  going-waits : Waits d going xs (effect d j)
+  going-waits = go (eqb (number d j) 0) going-sound
+    where
+      go : (b : Bool) → sound (cond b (turned (rowIn d (j .sent) .turn) (figuresOf (d .part)) (resting d true) (addressOf (figuresOf (d .part)) (j .sent)) (j .sent)) (resting d true)) ≡ true
+          → Waits d (cond b (turned (rowIn d (j .sent) .turn) (figuresOf (d .part)) (resting d true) (addressOf (figuresOf (d .part)) (j .sent)) (j .sent)) (resting d true)) xs (cond b (own (figuresOf (d .part)) (j .sent)) asItWas)
+      go true k = turned-waits d xs z (j .sent) (code j) (f .kind) k
+      go false k = still-waits d xs z s
 
   three-are : run (enable j ∷ carry j ∷ rest (resting d l) ∷ []) (chip (resting d l) xs) ≡ chip (resting d (going-waits .1 .0)) ys
-  unfolding moded
-  three-are = ap (after (rest d)) two-are ∙ ap (λ (e : Device). chip e ys) (going-waits .1 .1)
+  unfolding moded remembering
+  three-are = ap (after (rest d)) two-are ∙ going-waits .1 .1
 
   pub rested-number : reply (rest (resting d l)) (run (enable j ∷ carry j ∷ []) (chip (resting d l) xs)) .answer .number ≡ 0
-  unfolding moded
+  unfolding moded remembering
   rested-number = ap (λ (c : Chip). reply (rest d) c .answer .number) two-are ∙ going-waits .0
 
   -- call 4
@@ -232,7 +247,7 @@ one-of-three true false = inl refl
 
 allowed : (d : Device) (n p : ℕ) (w : Bool) (at c : ℕ) → eqb n 0 ≡ false → eqb c 0x02 || (eqb c 0xD8 || eqb c 0xC7) ≡ true
     → ExecutedOr15Or17 (chipNumber (resting d true) (rowOf (figuresOf (d .part)) c) n p w at)
-unfolding chipNumber rowOf moded
+unfolding chipNumber rowOf moded remembering
 allowed d n p w at c e =
     codes-ind (λ (c : ℕ). ExecutedOr15Or17 (chipNumber (resting d true) (rowOf (figuresOf (d .part)) c) n p w at))
     (rw e (one-of-three (asNeeded (rowOf (figuresOf (d .part)) 0x02) n p) (inProtected (figuresOf (d .part)) (d .bp) at)))

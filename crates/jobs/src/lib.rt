@@ -54,7 +54,7 @@ pub fn run_job(
     let done = chip::transact(enabled, array, sent, pulses, w, response);
     let answer = done.answer;
     let started = done.device;
-    let waited = started.wait(longest);
+    let waited = started.wait(array, longest);
     let rested = waited.device;
     let next = alone(rested, array, 0x04, w);
     Done {

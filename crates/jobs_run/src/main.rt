@@ -12,7 +12,7 @@ fn send(device: Device, array: &mut [u8], sent: &[u8]) -> Device {
 fn set(device: Device, array: &mut [u8], settings: &[u8]) -> Device {
     let on = send(device, array, b"\x06");
     let started = send(on, array, settings);
-    let waited = started.wait(2);
+    let waited = started.wait(array, 2);
     waited.device
 }
 

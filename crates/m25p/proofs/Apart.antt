@@ -1,7 +1,7 @@
 -- The numbers of every call's answer come apart again, by the bits that docs/C-CALLS.md names, without a premise.
 -- Assumes nothing.
 use mathlib.Core.Path.{_≡_}
-use mathlib.Core.Bool.{not, _&&_}
+use mathlib.Core.Bool.{Bool, not, _&&_}
 use mathlib.Core.List.{List}
 use Prim.Native.Nat.{ℕ, _/_, _%_, _≤_, _<_}
 use native.Mathlib.Omega.{arith}
@@ -10,8 +10,9 @@ use lib.ListN.{length}
 use Rattle.slices.proofs.Choices.{cond-ind, zero-ind}
 use Rattle.parts.specs.Parts.{figuresOf, knownPart}
 use Rattle.device.specs.declared.Device.{Device}
-use Rattle.device.specs.declared.Checked.{Checked}
-use Rattle.device.specs.Device.{sound, rangedOf, waitCall, powerUpCall, soundAnswer}
+use Rattle.device.specs.Chip.{Chip, chip}
+use Rattle.device.specs.Device.{sound, rangedOf}
+use Rattle.device.specs.Time.{Timed, timeNumber, maskNumber, waitCall, powerUpCall, lossCall}
 use Rattle.device.specs.Packing.{packedLength, formed, fieldsOf, unpackAnswer, unpackOf}
 use Rattle.chip.specs.declared.Answer.{Answer}
 use Rattle.chip.specs.Answers.{deliveryAnswer}
@@ -20,7 +21,7 @@ use Rattle.chip.proofs.Rules.{Few, answer-few}
 use Rattle.pins.specs.Pins.{oddSamples, tooLong}
 use Rattle.pins.specs.Run.{runAnswer, answerOf}
 use Rattle.pins.proofs.Runs as pins
-use Rattle.m25p.specs.Calls.{packedAnswer, high, transactedC, Called, checkedC, CalledOn, deliveryC, DeliveredC}
+use Rattle.m25p.specs.Calls.{packedAnswer, high, transactedC, Called, timedC, CalledOn, deliveryC, DeliveredC}
 use Rattle.m25p.specs.Pins.{pinsC, RanC}
 
 -- bits 0 to 7, 8 to 15, 16 to 47 and 48 to 63 are the answer's numbers, and there are no bits above
@@ -37,7 +38,7 @@ unfolding packedAnswer
 apart a h k l m = record { number = omega arith; first = omega arith; count = omega arith; missing = omega arith; fits = omega arith }
 
 -- so does an answer with nothing driven and no bits missing
-apart-bare : {r k : ℕ} → r ≡ packedAnswer (bare k) → k ≤ 23 → Apart r (bare k)
+apart-bare : {r k : ℕ} → r ≡ packedAnswer (bare k) → k ≤ 41 → Apart r (bare k)
 apart-bare {r} {k} e h = rw e (apart (bare k) (omega arith) (omega arith) (omega arith) (omega arith))
 
 -- unpacking answers 0, 6 or 8
@@ -55,31 +56,39 @@ transact-apart packed array sent pulses w response p =
     (record { number = omega (arith, unpack-few packed); first = lit≤ tt; count = lit≤ tt; missing = lit≤ tt }) in
     rw (p .answer) (apart _ (omega (arith, f .number)) (omega (arith, f .first)) (omega (arith, f .count)) (omega (arith, f .missing)))
 
--- a checked call that answers at most 8
-checked-few : (call : Device → Checked) (packed : List ℕ) → ((d : Device) → call d .answer ≤ 8) → checkedC call packed .answer ≤ 8
-unfolding checkedC unpackOf
-checked-few call packed h = zero-ind (λ (c : Checked). c .answer ≤ 8) (unpackAnswer packed) (h (unpackOf packed .device)) (unpack-few packed)
+-- a call of time or power answers at most 41
+timed-few : (call : Chip → Timed) (packed array : List ℕ) → ((c : Chip) → call c .answer ≤ 41) → timedC call packed array .answer ≤ 41
+unfolding timedC
+timed-few call packed array h = zero-ind (λ (o : Timed). o .answer ≤ 41) (unpackAnswer packed) (h (chip (unpackOf packed .device) array)) (omega (arith, unpack-few packed))
 
-sound-few : (d : Device) → soundAnswer d ≤ 8
-unfolding soundAnswer
-sound-few d = cond-ind (λ (k : ℕ). k ≤ 8) (sound d) (lit≤ tt) (lit≤ tt)
+time-few : (d : Device) (n next : ℕ) → next ≤ 41 → timeNumber d n next ≤ 41
+unfolding timeNumber
+time-few d n next h = cond-ind (λ (k : ℕ). k ≤ 41) (not (sound d)) (lit≤ tt) (cond-ind (λ (k : ℕ). k ≤ 41) (not (eqb n (figuresOf (d .part) .bytes))) (lit≤ tt) h)
 
 -- a wait
-pub wait-apart : (packed : List ℕ) (t : ℕ) {r : ℕ} {packed′ : List ℕ} → CalledOn (checkedC (λ d. waitCall d t) packed) packed r packed′ → Apart r (bare (checkedC (λ d. waitCall d t) packed .answer))
+pub wait-apart : (packed array : List ℕ) (t : ℕ) {r : ℕ} {packed′ array′ : List ℕ} → CalledOn (timedC (λ c. waitCall c t) packed array) packed r packed′ array′ → Apart r (bare (timedC (λ c. waitCall c t) packed array .answer))
 unfolding waitCall
-wait-apart packed t p = apart-bare (p .answer) (omega (arith, checked-few (λ d. waitCall d t) packed sound-few))
+wait-apart packed array t p = apart-bare (p .answer) (timed-few (λ c. waitCall c t) packed array (λ c. time-few (c .device) (length (c .array)) 0 (lit≤ tt)))
 
 -- a power-up
-pub power-up-apart : (packed : List ℕ) {r : ℕ} {packed′ : List ℕ} → CalledOn (checkedC powerUpCall packed) packed r packed′ → Apart r (bare (checkedC powerUpCall packed .answer))
+pub power-up-apart : (packed array : List ℕ) {r : ℕ} {packed′ array′ : List ℕ} → CalledOn (timedC powerUpCall packed array) packed r packed′ array′ → Apart r (bare (timedC powerUpCall packed array .answer))
 unfolding powerUpCall
-power-up-apart packed p = apart-bare (p .answer) (omega (arith, checked-few powerUpCall packed sound-few))
+power-up-apart packed array p = apart-bare (p .answer) (timed-few powerUpCall packed array (λ c. time-few (c .device) (length (c .array)) 0 (lit≤ tt)))
+
+-- a power loss
+pub loss-apart : (packed array mask : List ℕ) (told : Bool) {r : ℕ} {packed′ array′ : List ℕ} → CalledOn (timedC (λ c. lossCall c mask told) packed array) packed r packed′ array′
+    → Apart r (bare (timedC (λ c. lossCall c mask told) packed array .answer))
+unfolding lossCall
+loss-apart packed array mask told p =
+    apart-bare (p .answer)
+    (timed-few (λ c. lossCall c mask told) packed array (λ c. time-few (c .device) (length (c .array)) (maskNumber (length mask)) (cond-ind (λ (k : ℕ). k ≤ 41) (not (eqb (length mask) 256)) (lit≤ tt) (lit≤ tt))))
 
 -- a delivery
 pub deliver-apart : (packed : List ℕ) (part : ℕ) (array : List ℕ) (p s b t : ℕ) {r : ℕ} {packed′ array′ : List ℕ} → DeliveredC packed part array p s b t r packed′ array′
     → Apart r (bare (deliveryC packed part (length array) p s b t))
 unfolding deliveryC deliveryAnswer
 deliver-apart packed part array p s b t d =
-    let P : ℕ → Type 0 = λ k. k ≤ 23 in
+    let P : ℕ → Type 0 = λ k. k ≤ 41 in
     apart-bare (d .answer)
     (cond-ind P (eqb (length packed) packedLength)
     (cond-ind P (not (knownPart part)) (lit≤ tt)

@@ -7,23 +7,26 @@ use Prim.Native.Nat.{ℕ, zero, suc, _≤_}
 use borrow.Author.Tests.{eq-eqb, ne-eqb, not-false}
 use lib.Dec.{eqb}
 use lib.ListN.{length}
-use Rattle.slices.specs.Changed.{mapAt, put}
+use Rattle.slices.specs.Changed.{mapAt, put, stored}
+use Rattle.slices.proofs.Stores.{stored-whole}
 use Rattle.slices.proofs.Choices.{both, past, other}
 use Rattle.memory.specs.Missing.{mostMissing}
 use Rattle.parts.specs.Parts.{figuresOf, knownPart}
 use Rattle.device.specs.declared.Device.{Device}
 use Rattle.device.specs.declared.Checked.{Checked}
-use Rattle.device.specs.Device.{onZero, sound, rangedOf, waitCall, powerUpCall, soundAnswer, zeroRecord, delivered}
-use Rattle.device.specs.Packing.{packedLength, packOf, packAnswer, Packed, unpackAnswer, unpackOf}
-use Rattle.device.proofs.Sound.{delivered-sound}
+use Rattle.device.specs.Chip.{Chip, chip}
+use Rattle.device.specs.Device.{onZero, sound, rangedOf, zeroRecord, delivered}
+use Rattle.device.specs.Time.{Timed, Handed}
+use Rattle.device.specs.Packing.{packedLength, packOf, unpackAnswer, unpackOf}
+use Rattle.device.proofs.Calls.{length-pack}
+use Rattle.device.proofs.Sound.{delivered-sound, slots-long}
 use Rattle.device.proofs.Inverse.{opened}
 use Rattle.chip.specs.declared.Answer.{Answer}
 use Rattle.chip.specs.declared.answers.Verdict.the-variants.{Refused}
 use Rattle.chip.specs.Answers.{deliveryAnswer}
 use Rattle.chip.specs.Outcome.{Outcome, bare, outcomeOf, transacted, Meets, Delivered}
-use Rattle.chip.proofs.Records.{wait-sound, power-up-sound}
 use Rattle.chip.proofs.Rules.{answer-few, stays-sound}
-use Rattle.m25p.specs.Calls.{packedAnswer, high, packedBy, transactedC, Called, checkedC, CalledOn, deliveryC, DeliveredC}
+use Rattle.m25p.specs.Calls.{packedAnswer, high, packedBy, transactedC, Called, timedC, CalledOn, deliveryC, DeliveredC}
 
 -- ---- packing
 
@@ -36,18 +39,19 @@ named b = refl
 pub unpacked-sound : (b : List ℕ) → unpackOf b .answer ≡ 0 → sound (unpackOf b .device) ≡ true
 unpacked-sound b e = let o = opened b e in rw (o .fields) (o .is-sound)
 
--- a sound record packed over bytes of its length
-pub packs : {d : Device} {out out′ : List ℕ} {r : ℕ} → Packed d out r out′ → length out ≡ packedLength → sound d ≡ true → out′ ≡ packOf d
-unfolding packAnswer
-packs p l s = p .bytes ∙ rw (l, s)
-
 -- an answer that is not 0 leaves the packed bytes
 pub kept : (k : ℕ) (d : Device) (b : List ℕ) → (k ≡ 0 → ⊥) → b ≡ packedBy k d b
 kept k d b n = other k (packOf d) b n
 
--- an answer of 0 packs the next record
-pub written : (k : ℕ) {d e : Device} (b : List ℕ) {b′ : List ℕ} → k ≡ 0 → d ≡ e → b′ ≡ packOf d → b′ ≡ packedBy k e b
-written k b z e p = rw z (p ∙ ap packOf e)
+-- what is stored over bytes of a packing's length, of a record that is sound where the answer is 0
+pub stores : (k : ℕ) (d : Device) (b : List ℕ) {b′ : List ℕ} → b′ ≡ onZero k (mapAt (stored 0 (packOf d)) b) b → length b ≡ packedLength → (k ≡ 0 → sound d ≡ true) → b′ ≡ packedBy k d b
+stores zero d b e l s = e ∙ stored-whole (packOf d) b (length-pack d (slots-long d (s refl)) ∙ sym l)
+stores (suc k) d b e l s = e
+
+-- only the record of an answer of 0 is looked at
+pub same-next : (k : ℕ) (d e : Device) (b : List ℕ) → (k ≡ 0 → d ≡ e) → packedBy k d b ≡ packedBy k e b
+same-next zero d e b h = ap packOf (h refl)
+same-next (suc k) d e b h = refl
 
 -- ---- a transaction
 
@@ -81,58 +85,51 @@ pub few-missing : (d : Device) (array sent : List ℕ) (pulses : ℕ) (w : Bool)
     → Meets (transacted d array sent pulses w response) a next array′ response′ → a .missing ≤ mostMissing
 few-missing d array sent pulses w response m = rw (m .answer) (answer-few d array sent pulses w response .missing)
 
-pub leaves : (a : Answer) (next : Device) (packed : List ℕ) → (a .number ≡ 0 → ⊥) → packed ≡ packedBy (a .number) next packed
-leaves a next packed n = kept (a .number) next packed n
-
 -- the promise admits one outcome only
 pub one-call : {o : Outcome} {packed packed′ packed″ array′ array″ response′ response″ : List ℕ} {r s : ℕ} → Called o packed r packed′ array′ response′ → Called o packed s packed″ array″ response″
     → (r ≡ s) × (packed′ ≡ packed″) × (array′ ≡ array″) × (response′ ≡ response″)
 one-call p q = (p .answer ∙ sym (q .answer), p .bytes ∙ sym (q .bytes), p .memory ∙ sym (q .memory), p .line ∙ sym (q .line))
 
--- ---- wait and power-up
+-- ---- wait, power-up and power loss
 
-pub refused-on : (call : Device → Checked) (packed : List ℕ) {r : ℕ} → (unpackOf packed .answer ≡ 0 → ⊥) → r ≡ packedAnswer (bare (unpackOf packed .answer)) → CalledOn (checkedC call packed) packed r packed
-unfolding checkedC
-refused-on call packed {r} n e = go (unpackAnswer packed) (named packed) (λ z. n (named packed ∙ z))
-  where
-    go : (k : ℕ) → unpackOf packed .answer ≡ k → (k ≡ 0 → ⊥) → CalledOn (onZero k (call (unpackOf packed .device)) (unpackOf packed)) packed r packed
-    go zero q n = absurd (n refl)
-    go (suc k) q n = record { answer = e; bytes = kept (unpackOf packed .answer) (unpackOf packed .device) packed (λ z. n (sym q ∙ z)) }
-
-pub carried-on : (call : Device → Checked) (packed : List ℕ) {r : ℕ} {packed′ : List ℕ} → unpackOf packed .answer ≡ 0 → call (unpackOf packed .device) .answer ≡ 0 → r ≡ packedAnswer (bare 0)
-    → packed′ ≡ packOf (call (unpackOf packed .device) .device) → CalledOn (checkedC call packed) packed r packed′
-unfolding checkedC
-carried-on call packed z y e p =
-    let x : unpackAnswer packed ≡ 0 = sym (named packed) ∙ z in
-    rw x (record { answer = rw y e; bytes = rw y p })
-
--- a checked call that answers a sound record with 0 and leaves it sound
-abbrev pub Keeps : (Device → Checked) → Type 0
-Keeps call = (d : Device) → sound d ≡ true → (call d .answer ≡ 0) × (sound (call d .device) ≡ true)
-
-pub waits : (t : ℕ) → Keeps (λ d. waitCall d t)
-unfolding waitCall soundAnswer
-waits t d s = (rw s, wait-sound d t s)
-
-pub powers : Keeps powerUpCall
-unfolding powerUpCall soundAnswer
-powers d s = (rw s, power-up-sound d s)
+-- a call that leaves a sound record sound
+abbrev pub Keeps : (Chip → Timed) → Type 0
+Keeps call = (c : Chip) → sound (c .device) ≡ true → sound (call c .chip .device) ≡ true
 
 -- as the code goes: what unpacking gave, and the call on it
-module _ (call : Device → Checked) (packed : List ℕ) {came : Checked} (e : came ≡ unpackOf packed) where
-  pub came-refused : {r : ℕ} → (came .answer ≡ 0 → ⊥) → r ≡ packedAnswer (bare (came .answer)) → CalledOn (checkedC call packed) packed r packed
-  came-refused n h = let a = ap (λ (x : Checked). x .answer) e in refused-on call packed (λ z. n (a ∙ z)) (h ∙ ap (λ (k : ℕ). packedAnswer (bare k)) a)
+module _ (call : Chip → Timed) (packed array : List ℕ) {came : Checked} (e : came ≡ unpackOf packed) where
+  pub came-refused : {r : ℕ} → (came .answer ≡ 0 → ⊥) → r ≡ packedAnswer (bare (came .answer)) → CalledOn (timedC call packed array) packed r packed array
+  unfolding timedC
+  came-refused {r} n h =
+      let a = ap (λ (x : Checked). x .answer) e ∙ named packed in
+      go (unpackAnswer packed) (λ z. n (a ∙ z)) (h ∙ ap (λ (k : ℕ). packedAnswer (bare k)) a)
+    where
+      c : Chip
+      c = chip (unpackOf packed .device) array
 
-  pub came-carried : Keeps call → {done : Checked} {k r : ℕ} {packed′ : List ℕ} → came .answer ≡ 0 → done ≡ call (came .device) → Packed (done .device) packed k packed′ → r ≡ packedAnswer (bare 0)
-      → CalledOn (checkedC call packed) packed r packed′
-  came-carried keeps z d p h =
+      go : (k : ℕ) → (k ≡ 0 → ⊥) → r ≡ packedAnswer (bare k) → CalledOn (onZero k (call c) (record { answer = k; chip = c })) packed r packed array
+      go zero n h = absurd (n refl)
+      go (suc k) n h = record { answer = h; bytes = refl; memory = refl }
+
+  pub came-carried : Keeps call → {done : Checked} {r : ℕ} {packed′ array′ : List ℕ} → came .answer ≡ 0 → Handed (call (chip (came .device) array)) done array′
+      → packed′ ≡ onZero (done .answer) (mapAt (stored 0 (packOf (done .device))) packed) packed → r ≡ packedAnswer (bare (done .answer)) → CalledOn (timedC call packed array) packed r packed′ array′
+  unfolding timedC
+  came-carried keeps {done} {r} {packed′} {array′} z m p h =
       let y : unpackOf packed .answer ≡ 0 = sym (ap (λ (x : Checked). x .answer) e) ∙ z in
-      let w = keeps (unpackOf packed .device) (unpacked-sound packed y) in
-      let n = ap (λ (x : Checked). x .device) d ∙ ap (λ (x : Checked). call (x .device) .device) e in
-      carried-on call packed y (w .0) h (packs p (opened packed y .long) (rw n (w .1)) ∙ ap packOf n)
+      let x : unpackAnswer packed ≡ 0 = sym (named packed) ∙ y in
+      let c = chip (unpackOf packed .device) array in
+      let g : Handed (call c) done array′ = rw (← e) m in
+      let s : sound (done .device) ≡ true = rw (g .device) (keeps c (unpacked-sound packed y)) in
+      let q = stores (done .answer) (done .device) packed p (opened packed y .long) (λ z. s) in
+      rw x
+      (record {
+        answer = h ∙ ap (λ (k : ℕ). packedAnswer (bare k)) (g .answer);
+        bytes = q ∙ ap (λ (k : ℕ). packedBy k (done .device) packed) (g .answer) ∙ ap (λ (d : Device). packedBy (call c .answer) d packed) (g .device);
+        memory = g .memory;
+      })
 
-pub one-call-on : {c : Checked} {packed packed′ packed″ : List ℕ} {r s : ℕ} → CalledOn c packed r packed′ → CalledOn c packed s packed″ → (r ≡ s) × (packed′ ≡ packed″)
-one-call-on p q = (p .answer ∙ sym (q .answer), p .bytes ∙ sym (q .bytes))
+pub one-call-on : {o : Timed} {packed packed′ packed″ array′ array″ : List ℕ} {r s : ℕ} → CalledOn o packed r packed′ array′ → CalledOn o packed s packed″ array″ → (r ≡ s) × (packed′ ≡ packed″) × (array′ ≡ array″)
+one-call-on p q = (p .answer ∙ sym (q .answer), p .bytes ∙ sym (q .bytes), p .memory ∙ sym (q .memory))
 
 -- ---- delivery
 

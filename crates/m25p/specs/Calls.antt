@@ -7,8 +7,9 @@ use lib.Dec.{eqb}
 use lib.ListN.{length}
 use Rattle.slices.specs.Changed.{mapAt, put}
 use Rattle.device.specs.declared.Device.{Device}
-use Rattle.device.specs.declared.Checked.{Checked}
+use Rattle.device.specs.Chip.{Chip, chip}
 use Rattle.device.specs.Device.{onZero, delivered}
+use Rattle.device.specs.Time.{Timed}
 use Rattle.device.specs.Packing.{packedLength, packOf, unpackAnswer, unpackOf}
 use Rattle.chip.specs.declared.Answer.{Answer}
 use Rattle.chip.specs.declared.answers.Verdict.the-variants.{Refused}
@@ -19,7 +20,7 @@ use Rattle.chip.specs.Outcome.{Outcome, bare, outcomeOf, transacted}
 unfoldable pub packedAnswer : Answer → ℕ
 packedAnswer a = a .number + 256 * a .first + 65536 * a .count + 281474976710656 * a .missing
 
--- W is low for 0, else high
+-- W is low for 0, else high; a loss says no for 0, else yes
 abbrev pub high : ℕ → Bool
 high w = not (eqb w 0)
 
@@ -41,14 +42,17 @@ pub record Called (o : Outcome) (packed : List ℕ) (r : ℕ) (packed′ array�
   pub memory : array′ ≡ o .array
   pub line : response′ ≡ o .response
 
--- ---- wait and power-up: 8 or 6 of the packing, else the checked call on the record
+-- ---- wait, power-up and power loss: 8 or 6 of the packing, else the call on the record beside the array
 
-unfoldable pub checkedC : (Device → Checked) → List ℕ → Checked
-checkedC call packed = onZero (unpackAnswer packed) (call (unpackOf packed .device)) (unpackOf packed)
+unfoldable pub timedC : (Chip → Timed) → List ℕ → List ℕ → Timed
+timedC call packed array =
+    let c = chip (unpackOf packed .device) array in
+    onZero (unpackAnswer packed) (call c) (record { answer = unpackAnswer packed; chip = c })
 
-pub record CalledOn (c : Checked) (packed : List ℕ) (r : ℕ) (packed′ : List ℕ) : Type 0 where
-  pub answer : r ≡ packedAnswer (bare (c .answer))
-  pub bytes : packed′ ≡ packedBy (c .answer) (c .device) packed
+pub record CalledOn (o : Timed) (packed : List ℕ) (r : ℕ) (packed′ array′ : List ℕ) : Type 0 where
+  pub answer : r ≡ packedAnswer (bare (o .answer))
+  pub bytes : packed′ ≡ packedBy (o .answer) (o .chip .device) packed
+  pub memory : array′ ≡ o .chip .array
 
 -- ---- delivery: 8, then 1, 2, 7
 

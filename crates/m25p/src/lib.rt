@@ -1,14 +1,17 @@
-// The C calls: delivery, transaction, wait, power-up and raw pins over the packed bytes of a record.
+// The C calls: delivery, transaction, wait, power-up, power loss and raw pins over the packed bytes of a record.
 ghost use mathlib.Core.Path.{_≡_};
 ghost use Prim.Native.Nat.{_≤_};
 ghost use Rattle.memory.specs.Missing.{mostMissing};
-ghost use Rattle.device.specs.Device.{waitCall, powerUpCall};
-ghost use Rattle.m25p.specs.Calls.{packedAnswer, transactedC, Called, checkedC, CalledOn, DeliveredC};
+ghost use Rattle.slices.specs.Chosen.{onZero};
+ghost use Rattle.slices.specs.Changed.{mapAt, stored};
+ghost use Rattle.device.specs.Packing.{packOf};
+ghost use Rattle.device.specs.Time.{waitCall, powerUpCall, lossCall};
+ghost use Rattle.m25p.specs.Calls.{packedAnswer, transactedC, Called, high, timedC, CalledOn, DeliveredC};
 ghost use Rattle.m25p.specs.Pins.{RanC};
 ghost use Rattle.chip.specs.Outcome;
 use chip::Answer;
+use device::Device;
 use device::packing::LENGTH;
-use device::packing::pack;
 use device::packing::unpack;
 
 // The four numbers of an answer in 64 bits.
@@ -25,6 +28,15 @@ fn bare(number: u8) -> u64
     ensures { λ r. ⌜ r ≡ packedAnswer (Outcome.bare number) ⌝ }
 {
     packed_answer(Answer::bare(number))
+}
+
+// The next record is written over the packed bytes where the answer is 0.
+fn store(number: u8, next: Device, packed: &mut [u8])
+    ensures { λ _. ⌜ now (packed .exit) ≡ onZero number (mapAt (stored 0 (packOf next)) (now (packed .entry))) (now (packed .entry)) ⌝ }
+{
+    if number == 0 {
+        device::packing::write(next, packed);
+    }
 }
 
 // Delivers a part: the packed record is written and the array becomes FF.
@@ -44,10 +56,7 @@ pub extern "C" fn m25p_deliver(
         return bare(8);
     }
     let done = chip::deliver(part, array, program, sector_erase, bulk_erase, write_status);
-    if done.answer == 0 {
-        pack(done.device, packed);
-        return bare(0);
-    }
+    store(done.answer, done.device, packed);
     bare(done.answer)
 }
 
@@ -69,39 +78,50 @@ pub extern "C" fn m25p_transact(
     }
     let done = chip::transact(came.device, array, sent, pulses, w != 0, response);
     let answer = done.answer;
-    if answer.number == 0 {
-        pack(done.device, packed);
-        return packed_answer(answer);
-    }
+    store(answer.number, done.device, packed);
     packed_answer(answer)
 }
 
-// Waits `ticks`.
+// Waits `ticks`: on the last tick of a cycle its effect comes.
 #[no_mangle]
-pub extern "C" fn m25p_wait(packed: &mut [u8], ticks: u32) -> u64
-    ensures { λ r. ⌜ CalledOn (checkedC (λ d. waitCall d ticks) (now (packed .entry))) (now (packed .entry)) r (now (packed .exit)) ⌝ }
+pub extern "C" fn m25p_wait(packed: &mut [u8], array: &mut [u8], ticks: u32) -> u64
+    ensures { λ r. ⌜ CalledOn (timedC (λ c. waitCall c ticks) (now (packed .entry)) (now (array .entry))) (now (packed .entry)) r (now (packed .exit)) (now (array .exit)) ⌝ }
 {
     let came = unpack(packed);
     if came.answer != 0 {
         return bare(came.answer);
     }
-    let done = came.device.wait(ticks);
-    pack(done.device, packed);
-    bare(0)
+    let done = came.device.wait(array, ticks);
+    store(done.answer, done.device, packed);
+    bare(done.answer)
 }
 
-// Powers up.
+// Powers up: a cycle is completed.
 #[no_mangle]
-pub extern "C" fn m25p_power_up(packed: &mut [u8]) -> u64
-    ensures { λ r. ⌜ CalledOn (checkedC powerUpCall (now (packed .entry))) (now (packed .entry)) r (now (packed .exit)) ⌝ }
+pub extern "C" fn m25p_power_up(packed: &mut [u8], array: &mut [u8]) -> u64
+    ensures { λ r. ⌜ CalledOn (timedC powerUpCall (now (packed .entry)) (now (array .entry))) (now (packed .entry)) r (now (packed .exit)) (now (array .exit)) ⌝ }
 {
     let came = unpack(packed);
     if came.answer != 0 {
         return bare(came.answer);
     }
-    let done = came.device.power_up();
-    pack(done.device, packed);
-    bare(0)
+    let done = came.device.power_up(array);
+    store(done.answer, done.device, packed);
+    bare(done.answer)
+}
+
+// Power is lost and comes back: a cycle is cut as the mask says; a settings write is complete on yes, which is any number but 0.
+#[no_mangle]
+pub extern "C" fn m25p_loss(packed: &mut [u8], array: &mut [u8], mask: &[u8], yes: u32) -> u64
+    ensures { λ r. ⌜ CalledOn (timedC (λ c. lossCall c (now (mask .entry)) (high yes)) (now (packed .entry)) (now (array .entry))) (now (packed .entry)) r (now (packed .exit)) (now (array .exit)) ⌝ }
+{
+    let came = unpack(packed);
+    if came.answer != 0 {
+        return bare(came.answer);
+    }
+    let done = came.device.loss(array, mask, yes != 0);
+    store(done.answer, done.device, packed);
+    bare(done.answer)
 }
 
 // A run over samples of the pins: the transactions carried out in order, the bits missing in them, and one output byte for each sample.
@@ -120,9 +140,6 @@ pub extern "C" fn m25p_pins(
     }
     let done = pins::run(came.device, array, samples, output);
     let answer = done.answer;
-    if answer.number == 0 {
-        pack(done.device, packed);
-        return packed_answer(answer);
-    }
+    store(answer.number, done.device, packed);
     packed_answer(answer)
 }

@@ -1,6 +1,8 @@
 // Packs and unpacks records of each part and mode, and records and bytes that are refused, and writes the answers and the bytes.
 use device::Device;
 use device::Mode;
+use device::cycle::Cycle;
+use device::cycle::Kind;
 use device::packing;
 use device::packing::LENGTH;
 
@@ -21,19 +23,54 @@ fn standby() -> Device {
     record(0, 0, false, false, Mode::Standby)
 }
 
-// The M25P40 in a cycle with as many ticks left as there may be.
-fn busy() -> Device {
-    record(2, 7, false, true, Mode::Busy(1_000_000))
+// A part in a cycle with so many ticks left, and the latch that belongs to them.
+fn running(part: u8, bp: u8, srwd: bool, cycle: Cycle, ticks: u32) -> Device {
+    let idle = record(part, bp, srwd, false, Mode::Standby);
+    idle.started(cycle, ticks)
 }
 
-// The bench part in the last tick of a cycle, its latch reset.
+// The M25P40 in a bulk erase with as many ticks left as there may be.
+fn busy() -> Device {
+    running(2, 7, false, Cycle::all(), 1_000_000)
+}
+
+// The bench part in the last tick of a sector erase at 000B0A, its latch reset.
 fn last_tick() -> Device {
-    record(0, 2, true, false, Mode::Busy(1))
+    running(0, 2, true, Cycle::sector(0x0B0A), 1)
+}
+
+// The bench part in a program at the last address: FF in each slot but two.
+fn programming() -> Device {
+    let mut slots = [0xFF; 256];
+    slots[0] = 0x5A;
+    slots[255] = 0xA5;
+    running(0, 1, true, Cycle::page(4095, slots), 3)
+}
+
+// The M25P128 in a write of SRWD 1 and BP 5.
+fn writing() -> Device {
+    running(4, 2, false, Cycle::settings(true, 5), 66_051)
 }
 
 // The M25P32 in deep power-down.
 fn deep() -> Device {
     record(3, 5, true, true, Mode::Deep)
+}
+
+// Prints a packing: 36 bytes and the slots; slots that are all the same byte as that byte and two dots.
+fn print_packing(bytes: &[u8]) {
+    let from = slices::least(36, bytes.len());
+    let slots = &bytes[from..];
+    let first = slices::byte_at(slots, 0);
+    io::write_all(1, b" ");
+    show::print_bytes(slices::front(bytes, 36));
+    io::write_all(1, b" ");
+    if show::all_are(slots, 0, first) {
+        io::print_hex(1, show::wide(first), 2);
+        io::write_all(1, b"..");
+    } else {
+        show::print_bytes(slots);
+    }
 }
 
 // Packs a record over bytes of 55, unpacks the bytes and packs what came: the three answers, the bytes, and whether both packings are the same.
@@ -47,8 +84,7 @@ fn round(name: &[u8], d: Device) {
     print_answer(p);
     print_answer(u.answer);
     print_answer(q);
-    io::write_all(1, b" ");
-    show::print_bytes(&bytes);
+    print_packing(&bytes);
     show::print_choice(check::same(&bytes, &again), b" same\n", b" differ\n");
 }
 
@@ -63,8 +99,7 @@ fn pack_into(name: &[u8], d: Device, out: &mut [u8]) {
     let p = pack_over(d, out);
     io::write_all(1, name);
     print_answer(p);
-    io::write_all(1, b" ");
-    show::print_bytes(out);
+    print_packing(out);
     io::write_all(1, b"\n");
 }
 
@@ -90,13 +125,29 @@ fn is_standby(mode: Mode) -> bool {
     }
 }
 
+// Whether a cycle is none, all zero.
+fn is_none(c: Cycle) -> bool {
+    let kind = c.kind;
+    let slots = c.slots;
+    let settings = (c.bp == 0) & !c.srwd;
+    let idle = match kind {
+        Kind::Idle => true,
+        Kind::Page => false,
+        Kind::Sector => false,
+        Kind::All => false,
+        Kind::Settings => false,
+    };
+    idle & settings & (c.address == 0) & show::all_are(&slots, 0, 0)
+}
+
 // Whether a record is the all-zero one.
 fn is_zero(d: Device) -> bool {
     let mode = d.mode;
     let short = (d.program == 0) & (d.sector_erase == 0);
     let long = (d.bulk_erase == 0) & (d.write_status == 0);
     let settings = (d.part == 0) & (d.bp == 0) & (d.status() == 0);
-    short & long & settings & is_standby(mode)
+    let cycle = d.cycle;
+    short & long & settings & is_standby(mode) & is_none(cycle)
 }
 
 // Unpacks bytes: the answer, the answer that packing the record handed back gives, and whether it is the all-zero one.
@@ -121,17 +172,15 @@ fn damaged(name: &[u8], d: Device, at: usize, v: u8) {
 
 // Records that are sound: 0 three times, the bytes by document 01's layout.
 fn sound_ones() {
-    // part, BP, SRWD, latch, mode, three zero bytes, ticks left, four durations: 1,000,000 is 40 42 0F 00
+    // part, BP, SRWD, latch, mode, three zero bytes, ticks left, four durations: 1,000,000 is 40 42 0F 00; then the cycle's kind, new BP and SRWD, a zero byte, its address, its slots
     round(b"bench-standby", standby());
     round(b"M25P10-A-standby", record(1, 3, true, true, Mode::Standby));
     round(b"M25P40-busy", busy());
     round(b"M25P32-deep", deep());
     // 66,051 ticks are 03 02 01 00
-    round(
-        b"M25P128-busy",
-        record(4, 0, false, true, Mode::Busy(66_051)),
-    );
+    round(b"M25P128-writing", writing());
     round(b"bench-last-tick", last_tick());
+    round(b"bench-programming", programming());
     round(b"bench-deep", record(0, 1, false, false, Mode::Deep));
     round(
         b"M25P10-A-older-deep",
@@ -146,18 +195,35 @@ fn refused_packs() {
     pack_whole(b"pack-bp-4", record(0, 4, false, false, Mode::Standby));
     pack_whole(
         b"pack-busy-latch-reset",
-        record(0, 0, false, false, Mode::Busy(2)),
+        running(0, 0, false, Cycle::all(), 2).latched(false),
     );
     pack_whole(
         b"pack-last-tick-latch-set",
-        record(0, 0, false, true, Mode::Busy(1)),
+        running(0, 0, false, Cycle::all(), 1).latched(true),
     );
-    pack_whole(b"pack-ticks-0", record(0, 0, false, true, Mode::Busy(0)));
+    pack_whole(b"pack-ticks-0", running(0, 0, false, Cycle::all(), 0));
     pack_whole(
         b"pack-ticks-1000001",
-        record(0, 0, false, true, Mode::Busy(1_000_001)),
+        running(0, 0, false, Cycle::all(), 1_000_001),
     );
     pack_whole(b"pack-M25P128-deep", record(4, 0, false, false, Mode::Deep));
+    // busy without a cycle, a cycle outside one, an address and a BP that the part has not
+    pack_whole(
+        b"pack-busy-no-cycle",
+        record(0, 0, false, true, Mode::Busy(2)),
+    );
+    pack_whole(
+        b"pack-idle-cycle",
+        running(0, 0, false, Cycle::all(), 2).moded(false, Mode::Standby),
+    );
+    pack_whole(
+        b"pack-address-4096",
+        running(0, 0, false, Cycle::sector(4096), 2),
+    );
+    pack_whole(
+        b"pack-new-bp-4",
+        running(0, 0, false, Cycle::settings(false, 4), 2),
+    );
     let mut short = [0; LENGTH - 1];
     let mut long = [0; LENGTH + 1];
     pack_into(b"pack-short", standby(), &mut short);
@@ -204,10 +270,38 @@ fn damaged_numbers() {
     damaged(b"deep-M25P40", deep(), 0, 2);
 }
 
+// The same of the cycle: outside one, of each kind, and of no kind.
+fn damaged_cycles() {
+    damaged(b"idle-kind", standby(), 28, 3);
+    damaged(b"idle-bp", standby(), 29, 1);
+    damaged(b"idle-srwd", standby(), 30, 1);
+    damaged(b"idle-padding", standby(), 31, 1);
+    damaged(b"idle-address", standby(), 32, 1);
+    damaged(b"idle-slot", standby(), 291, 1);
+    damaged(b"deep-kind", deep(), 28, 1);
+    damaged(b"no-kind", busy(), 28, 0);
+    damaged(b"kind-5", busy(), 28, 5);
+    damaged(b"bulk-as-sector", busy(), 28, 2);
+    damaged(b"bulk-bp", busy(), 29, 1);
+    damaged(b"bulk-address", busy(), 34, 1);
+    damaged(b"bulk-slot", busy(), 163, 1);
+    damaged(b"sector-4095", last_tick(), 33, 0x0F);
+    damaged(b"sector-above", last_tick(), 33, 0x10);
+    damaged(b"sector-high-byte", last_tick(), 35, 1);
+    damaged(b"program-slot", programming(), 36, 0);
+    damaged(b"program-srwd", programming(), 30, 1);
+    damaged(b"program-as-sector", programming(), 28, 2);
+    damaged(b"settings-bp-7", writing(), 29, 7);
+    damaged(b"settings-bp-8", writing(), 29, 8);
+    damaged(b"settings-srwd-2", writing(), 30, 2);
+    damaged(b"settings-padding", writing(), 31, 1);
+}
+
 // Other lengths: 8, whatever the bytes are.
 fn other_lengths() {
     unpack_from(b"short", &[0; LENGTH - 1]);
     unpack_from(b"long", &[0; LENGTH + 1]);
+    unpack_from(b"without-cycle", &[0; 28]);
     unpack_from(b"empty", b"");
     unpack_from(b"all-zero", &[0; LENGTH]);
 }
@@ -217,5 +311,6 @@ fn main() {
     refused_packs();
     damaged_in_standby();
     damaged_numbers();
+    damaged_cycles();
     other_lengths();
 }

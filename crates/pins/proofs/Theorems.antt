@@ -21,8 +21,9 @@ use Rattle.chip.specs.declared.Answer.{Answer}
 use Rattle.chip.specs.declared.Done.{Done}
 use Rattle.chip.specs.Answers.{hostNumber}
 use Rattle.chip.specs.Outcome.{transacted}
-use Rattle.chip.specs.Events.{Good, sends, missed}
-use Rattle.chip.proofs.Events.{after-sound, after-length, after-good, no-refusal}
+use Rattle.chip.specs.Events.{Good, sends, sent, missed}
+use Rattle.chip.proofs.Events.{after-sound, after-good, no-refusal}
+use Rattle.chip.proofs.Rules.{array-stays}
 use Rattle.chip.proofs.Lines.{LineIs, line-is-driven}
 use Rattle.pins.specs.declared.levels.Levels.{Levels}
 use Rattle.pins.specs.Pins.{levelsOf, Pins, ends, Transaction, anew, nextTaking, nextFound, Seen, atRest, step, seenFrom, seen, tooLong}
@@ -78,16 +79,17 @@ no-later {d} {array} {samples} {other} k p z q y l m e i lt =
 one-sound : (c : Chip) (t : Transaction) → sound (c .device) ≡ true → sound (carriedOut c t .device) ≡ true
 one-sound c t s = after-sound (sends (t .sent) (t .pulses) (t .w)) c s
 
-one-length : (c : Chip) (t : Transaction) → length (carriedOut c t .array) ≡ length (c .array)
-one-length c t = after-length (sends (t .sent) (t .pulses) (t .w)) c
+one-array : (c : Chip) (t : Transaction) → carriedOut c t .array ≡ c .array
+unfolding sent
+one-array c t = array-stays (c .device) (c .array) (t .sent) (t .pulses) (t .w) (replicate (length (t .sent)) 0)
 
 all-sound : (c : Chip) (ts : List Transaction) → sound (c .device) ≡ true → sound (carriedAll c ts .device) ≡ true
 all-sound c [] s = s
 all-sound c (t ∷ ts) s = all-sound (carriedOut c t) ts (one-sound c t s)
 
-all-length : (c : Chip) (ts : List Transaction) → length (carriedAll c ts .array) ≡ length (c .array)
-all-length c [] = refl
-all-length c (t ∷ ts) = all-length (carriedOut c t) ts ∙ one-length c t
+all-array : (c : Chip) (ts : List Transaction) → carriedAll c ts .array ≡ c .array
+all-array c [] = refl
+all-array c (t ∷ ts) = all-array (carriedOut c t) ts ∙ one-array c t
 
 module _ {d : Device} {array samples output : List ℕ} {r : Done} {array′ output′ : List ℕ} (ran : Ran d array samples output r array′ output′) where
   -- a sound record stays sound, refused or not
@@ -101,13 +103,14 @@ module _ {d : Device} {array samples output : List ℕ} {r : Done} {array′ out
   pub run-few : r .answer .missing ≤ mostMissing
   run-few = rw (ran .answer) (answer-few (runAnswer d (length array) samples (length output)) d array samples)
 
-  -- array and output keep their lengths
-  pub run-lengths : (length array′ ≡ length array) × (length output′ ≡ length output)
+  -- no tick passes in a run: every byte of the array stays, and a cycle that was started is left pending
+  pub run-array : array′ ≡ array
   unfolding chipAfter
-  run-lengths = (
-    rw (ran .memory) (zero-ind (λ (x : List ℕ). length x ≡ length array) (runAnswer d (length array) samples (length output)) (all-length (record { device = d; array = array }) (seen samples .found)) refl),
-    rw (ran .shown) (zero-ind (λ (x : List ℕ). length x ≡ length output) (runAnswer d (length array) samples (length output)) (length-map _ output) refl),
-  )
+  run-array = rw (ran .memory) (zero-ind (λ (x : List ℕ). x ≡ array) (runAnswer d (length array) samples (length output)) (all-array (record { device = d; array = array }) (seen samples .found)) refl)
+
+  -- the output keeps its length
+  pub run-length : length output′ ≡ length output
+  run-length = rw (ran .shown) (zero-ind (λ (x : List ℕ). length x ≡ length output) (runAnswer d (length array) samples (length output)) (length-map _ output) refl)
 
 -- ---- the transactions found are never refused, and each line is what the chip drives
 

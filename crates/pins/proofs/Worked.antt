@@ -18,15 +18,16 @@ use Rattle.memory.specs.Missing.{missingAt, missing, pageOf}
 use Rattle.parts.specs.Parts.{figuresOf}
 use Rattle.parts.specs.Protected.{protectedOf}
 use Rattle.device.specs.declared.Device.{Device}
-use Rattle.device.specs.Device.{sound, onZero, statusByte, moded, latched, settled, running, latchAt}
+use Rattle.device.specs.Device.{sound, onZero, statusByte, moded, latched, settled, remembering, running, started, ended, latchAt}
+use Rattle.device.specs.Time.{afterCycle, finished}
 use Rattle.chip.specs.Table.{rowOf, addressOf}
 use Rattle.chip.specs.Answers.{hostNumber, inProtected, asNeeded, chipNumber, decided, verdictOf}
 use Rattle.chip.specs.Line.{byRow, heard, heardRow, driven, lined}
-use Rattle.device.specs.Cycles.{noSlots, touched}
-use Rattle.chip.specs.Change.{cycleOf, changed, missingOf, bpIn, turned}
+use Rattle.device.specs.Cycles.{noSlots, noCycle, pageCycle, sectorCycle, allCycle, settingsCycle, slotsSound, cycleSound, touched}
+use Rattle.chip.specs.Change.{cycleOf, missingOf, bpIn, turned}
 use Rattle.chip.specs.declared.Done.{Done}
 use Rattle.chip.specs.Outcome.{outcomeOf, transacted}
-use Rattle.chip.proofs.Rules.{array-length}
+use Rattle.chip.proofs.Rules.{array-stays}
 use Rattle.pins.specs.declared.levels.Levels.{Levels}
 use Rattle.pins.specs.Pins.{levelsOf, Pins, rest, onSelect, onClock, onHold, nextPins, changes, ends, takes, moves, Transaction, Taking, anew, shifted, bitTaken, movedOn, clocked, nextTaking, nextFound, Seen, atRest, step, seenFrom, seen, tooLong, oddSamples}
 use Rattle.chip.specs.Events.{sent}
@@ -77,7 +78,7 @@ one-is : (len : ℕ) (c : Chip) (t : Transaction) → length (c .array) ≡ len 
 unfolding sent transacted
 one-is len c t whole =
     let e : oneAt len c t ≡ carriedOut c t = rw (whole, length-replicate {A = ℕ} (length (t .sent)) 0) in
-    (e, ap (λ (y : Chip). length (y .array)) e ∙ (array-length (c .device) (c .array) (t .sent) (t .pulses) (t .w) (replicate (length (t .sent)) 0) ∙ whole))
+    (e, ap (λ (y : Chip). length (y .array)) e ∙ (ap length (array-stays (c .device) (c .array) (t .sent) (t .pulses) (t .w) (replicate (length (t .sent)) 0)) ∙ whole))
 
 all-is : (len : ℕ) (c : Chip) (ts : List Transaction) → length (c .array) ≡ len → (allAt len c ts ≡ carriedAll c ts) × (length (allAt len c ts .array) ≡ len)
 all-is len c [] whole = (refl, whole)
@@ -173,7 +174,7 @@ allCompute [] = true
 allCompute (k ∷ ks) = computes k && allCompute ks
 
 computed : T (allCompute cases)
-unfolding allCompute computes cases shownFrom chipFrom mapAt window sumAt memory-is.blank memory-is.filled memory-is.programmed memory-is.erased figuresOf protectedOf sound statusByte moded latched settled running latchAt rowOf addressOf hostNumber inProtected asNeeded chipNumber decided verdictOf byRow heard heardRow driven noSlots cycleOf touched changed missingOf missing missingAt pageOf memory-is.reached memory-is.landed ones onesIn bpIn turned outcomeOf transacted sent answerOf missedIn lined levelsOf rest onSelect onClock onHold nextPins changes ends takes moves anew shifted bitTaken movedOn clocked nextTaking nextFound atRest step seen tooLong oddSamples outputOf runAnswer
+unfolding allCompute computes cases shownFrom chipFrom mapAt window sumAt memory-is.blank memory-is.filled memory-is.programmed memory-is.erased figuresOf protectedOf sound statusByte moded latched settled remembering running started ended latchAt afterCycle finished rowOf addressOf hostNumber inProtected asNeeded chipNumber decided verdictOf byRow heard heardRow driven noSlots noCycle pageCycle sectorCycle allCycle settingsCycle slotsSound cycleSound cycleOf touched missingOf missing missingAt pageOf memory-is.reached memory-is.landed ones onesIn bpIn turned outcomeOf transacted sent answerOf missedIn lined levelsOf rest onSelect onClock onHold nextPins changes ends takes moves anew shifted bitTaken movedOn clocked nextTaking nextFound atRest step seen tooLong oddSamples outputOf runAnswer
 computed = tt
 
 -- what the promise admits at a case is what was computed

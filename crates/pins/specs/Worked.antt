@@ -5,7 +5,9 @@ use Prim.Native.Nat.{ℕ, suc, _+_, _*_, _-_}
 use lib.Dec.{T, eqb}
 use lib.ListN.{length, getD, replicate}
 use Rattle.device.specs.declared.Device.{Device}
+use Rattle.device.specs.Chip.{chip}
 use Rattle.device.specs.Device.{statusByte}
+use Rattle.device.specs.Time.{finished}
 use Rattle.chip.specs.declared.Done.{Done}
 use Rattle.chip.specs.Worked.{same, bench, quick}
 use Rattle.pins.specs.Run.{Ran}
@@ -39,7 +41,7 @@ bits bs os = record { samples = clock 24 bs; output = twice os }
 abbrev pub bits-w-low : List ℕ → List ℕ → Stretch
 bits-w-low bs os = record { samples = clock 16 bs; output = twice os }
 
--- a run on an array of one byte over and over: its length and that byte, the samples, the length of the output; then the answer, the bits missing, the status byte and byte 0 of the array after it
+-- a run on an array of one byte over and over: its length and that byte, the samples, the length of the output; then the answer, the bits missing and the status byte after it, and byte 0 of the array once the cycle that it leaves is completed: up to then every byte is as it was
 pub record Case : Type 0 where
   pub device : Device
   pub bytes : ℕ
@@ -72,7 +74,7 @@ written k = cond (eqb (k .answer) 0) (outputIn (k .run) ++ unwritten (k .room - 
 -- an outcome is as the case says
 abbrev pub asTold : Case → Done → List ℕ → List ℕ → Bool
 asTold k r array output =
-    eqb (r .answer .number) (k .answer) && eqb (r .answer .first) 0 && eqb (r .answer .count) 0 && eqb (r .answer .missing) (k .missing) && same output (written k) && eqb (statusByte (r .device)) (k .status) && eqb (getD array 0 0) (k .first)
+    eqb (r .answer .number) (k .answer) && eqb (r .answer .first) 0 && eqb (r .answer .count) 0 && eqb (r .answer .missing) (k .missing) && same output (written k) && eqb (statusByte (r .device)) (k .status) && eqb (getD array 0 0) (k .was) && eqb (getD (finished (chip (r .device) array) .array) 0 0) (k .first)
 
 -- whatever the promise of a run admits at these cases is as they say
 abbrev pub AllAsTold : List Case → Type 0
@@ -86,7 +88,7 @@ AllAsTold (k ∷ ks) =
 abbrev pub leaves : Device → List Stretch → ℕ → ℕ → Case
 leaves d ss status first = record { device = d; bytes = 4096; was = 0xFF; run = ss; room = suc (length (samplesIn ss)); answer = 0; missing = 0; status = status; first = first }
 
--- the same, byte 0 of the array still FF
+-- the same, byte 0 of the array FF to the end
 abbrev pub runs : Device → List Stretch → ℕ → Case
 runs d ss status = leaves d ss status 0xFF
 
@@ -148,7 +150,7 @@ enabled = runs plain (wren ∷ at 25 2 ∷ reads (row 0 0 0 0 0 0 1 0)) 0x02
 abbrev pub in-order : Case
 in-order = runs plain (wren ∷ at 25 2 ∷ bits (row 0 0 0 0 0 1 0 0) dark ∷ at 25 2 ∷ reads zeros) 0x00
 
--- a page program of 5A at 000000: the array's byte 0, and no ticks pass: still busy
+-- a page program of 5A at 000000: no ticks pass, so it is still busy, and byte 0 becomes 5A only when its cycle is completed
 abbrev pub programmed : Case
 programmed =
     leaves (bench 0 false true)
@@ -196,9 +198,9 @@ first-high = runs marked (at 26 2 ∷ bits (0 ∷ 0 ∷ 0 ∷ 0 ∷ 1 ∷ 0 ∷ 
 
 -- ---- W, read as Select rises
 
--- SRWD 1, W low but in the sample in which Select rises: a write of the settings to 00 is executed
+-- SRWD 1, W low but in the sample in which Select rises: a write of the settings to 00 is executed: busy, and the old ones show
 abbrev pub w-high : Case
-w-high = runs (bench 0 true true) (bits-w-low (row 0 0 0 0 0 0 0 1) dark ∷ bits-w-low zeros dark ∷ at 25 2 ∷ at 17 2 ∷ reads (row 0 0 0 0 0 0 1 1)) 0x03
+w-high = runs (bench 0 true true) (bits-w-low (row 0 0 0 0 0 0 0 1) dark ∷ bits-w-low zeros dark ∷ at 25 2 ∷ at 17 2 ∷ reads (row 1 0 0 0 0 0 1 1)) 0x83
 
 -- SRWD 1, W low in that sample alone: ignored
 abbrev pub w-low : Case

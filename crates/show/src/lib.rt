@@ -1,4 +1,4 @@
-// What the programs of the gate print: bytes, numbers, and one of two texts.
+// What the programs of the gate print: bytes, numbers, and one of two texts; and whether bytes are all the same.
 ghost use mathlib.Core.Path.{_≡_};
 
 // A byte as a number to print.
@@ -15,6 +15,18 @@ pub fn print_bytes(s: &[u8]) {
         io::print_hex(1, wide(s[i]), 2);
         i += 1;
     }
+}
+
+// Whether each byte from `from` on is `v`.
+pub fn all_are(s: &[u8], from: usize, v: u8) -> bool {
+    let mut i = from;
+    while i < s.len() {
+        if s[i] != v {
+            return false;
+        }
+        i += 1;
+    }
+    true
 }
 
 // Prints the first text where a test holds, else the second.

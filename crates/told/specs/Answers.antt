@@ -4,19 +4,22 @@ use mathlib.Core.Bool.{Bool, true, false, cond}
 use mathlib.Core.List.{List, [], _∷_, map}
 use Prim.Native.Nat.{ℕ, zero, suc}
 use lib.Dec.{eqb}
-use lib.ListN.{length, getD}
+use lib.ListN.{length, getD, replicate}
 use Rattle.slices.specs.Changed.{mapAt, put}
 use Rattle.slices.specs.Chosen.{onZero}
 use Rattle.parts.specs.Parts.{figuresOf}
 use Rattle.parts.specs.Protected.{protectedOf}
-use Rattle.device.specs.declared.Mode.the-variants.{Standby, Busy, Deep}
+use Rattle.device.specs.declared.Mode.the-variants.{Standby, Deep}
 use Rattle.device.specs.declared.Device.{Device}
-use Rattle.device.specs.Device.{sound, latchAt, zeroRecord, delivered}
+use Rattle.device.specs.declared.cycle.Cycle.{Cycle}
+use Rattle.device.specs.Cycles.{noSlots, noCycle, slotsSound, cycleSound}
+use Rattle.device.specs.Device.{sound, latchAt, zeroRecord, delivered, remembering}
 use Rattle.chip.specs.declared.answers.Verdict.{Verdict}
 use Rattle.chip.specs.declared.answers.Verdict.the-variants.{Refused, Ignored, Executed}
 use Rattle.chip.specs.Table.{rowOf, addressOf}
 use Rattle.chip.specs.Answers.{deliveryAnswer, hostNumber, inProtected, asNeeded, chipNumber, decided, verdictOf}
 use Rattle.chip.specs.Worked.{record-of, bench, usual}
+use Rattle.told.specs.Cycles.{full, none, programming, erasing-sector, erasing-all, writing, busy-of, mid-erase}
 
 -- ---- the host side
 
@@ -67,12 +70,14 @@ pub record Host : Type 0 where
   -- delivery in order, each with all that come after it: 1, 2, 7
   pub delivery-order : deliveryAnswer 6 0 0 5 9 2 ∷ deliveryAnswer 0 0 0 5 9 2 ∷ deliveryAnswer 0 4096 0 5 9 2 ∷ deliveryAnswer 0 4096 3 5 9 2 ∷ [] ≡ 1 ∷ 2 ∷ 7 ∷ 0 ∷ []
   -- an executed delivery gives the record as delivered and an array all FF; a refused one the all-zero record, and leaves the array
-  pub given : onZero 0 (delivered 2 3 5 9 2) zeroRecord ≡ record { part = 2; bp = 0; srwd = false; latch = false; mode = Standby; program = 3; «sector_erase» = 5; «bulk_erase» = 9; «write_status» = 2 }
-  pub not-given : onZero 7 (delivered 2 3 5 9 2) zeroRecord ≡ record { part = 0; bp = 0; srwd = false; latch = false; mode = Standby; program = 0; «sector_erase» = 0; «bulk_erase» = 0; «write_status» = 0 }
+  pub given : onZero 0 (delivered 2 3 5 9 2) zeroRecord ≡ record { part = 2; bp = 0; srwd = false; latch = false; mode = Standby; program = 3; «sector_erase» = 5; «bulk_erase» = 9; «write_status» = 2; cycle = none }
+  pub not-given : onZero 7 (delivered 2 3 5 9 2) zeroRecord ≡ record { part = 0; bp = 0; srwd = false; latch = false; mode = Standby; program = 0; «sector_erase» = 0; «bulk_erase» = 0; «write_status» = 0; cycle = none }
   pub erased : onZero 0 (mapAt (put 255) (0x00 ∷ 0x5A ∷ 0xFF ∷ [])) (0x00 ∷ 0x5A ∷ 0xFF ∷ []) ≡ 0xFF ∷ 0xFF ∷ 0xFF ∷ []
   pub left : onZero 1 (mapAt (put 255) (0x00 ∷ 0x5A ∷ 0xFF ∷ [])) (0x00 ∷ 0x5A ∷ 0xFF ∷ []) ≡ 0x00 ∷ 0x5A ∷ 0xFF ∷ []
   -- transaction, 6: the record not sound
   pub six : hostNumber unsound 4096 2 0 2 ∷ hostNumber zeroRecord 4096 2 0 2 ∷ hostNumber usual 4096 2 0 2 ∷ [] ≡ 6 ∷ 6 ∷ 0 ∷ []
+  -- so is one that is busy without a cycle, or has one in standby
+  pub six-cycle : hostNumber (busy-of 0 0 false true 2 none) 4096 2 0 2 ∷ hostNumber (remembering usual erasing-all) 4096 2 0 2 ∷ hostNumber (mid-erase 0 0 false true 2) 4096 2 0 2 ∷ [] ≡ 6 ∷ 6 ∷ 0 ∷ []
   -- transaction, 3: n above 65,536
   pub three : map (λ (n : ℕ). hostNumber usual 4096 n 0 n) (0 ∷ 65535 ∷ 65536 ∷ 65537 ∷ []) ≡ 0 ∷ 0 ∷ 0 ∷ 3 ∷ []
   -- transaction, 4: further pulses above 7
@@ -84,7 +89,7 @@ pub record Host : Type 0 where
 
 -- computed by the checker
 pub host : Host
-unfolding deliveryAnswer hostNumber sound latchAt figuresOf zeroRecord delivered mapAt
+unfolding deliveryAnswer hostNumber sound latchAt noSlots noCycle slotsSound cycleSound figuresOf zeroRecord delivered remembering mapAt
 host = record {
   one = refl;
   two-bench = refl;
@@ -111,6 +116,7 @@ host = record {
   erased = refl;
   left = refl;
   six = refl;
+  six-cycle = refl;
   three = refl;
   four = refl;
   five = refl;
@@ -205,10 +211,12 @@ pub record Chip : Type 0 where
   -- 14: the older M25P10-A has no RDID
   pub ready-older : asked (record-of 5 0 false true Standby) 0 true ≡ 0 ∷ 0 ∷ 14 ∷ 0 ∷ 0 ∷ 0 ∷ 0 ∷ 0 ∷ 0 ∷ 0 ∷ 0 ∷ 0 ∷ []
   -- 12: busy, and not RDSR
-  pub busy : asked (record-of 0 0 false true (Busy 2)) 0 true ≡ 12 ∷ 12 ∷ 12 ∷ 0 ∷ 12 ∷ 12 ∷ 12 ∷ 12 ∷ 12 ∷ 12 ∷ 12 ∷ 12 ∷ []
-  pub busy-last : asked (record-of 0 0 false false (Busy 1)) 0 true ≡ 12 ∷ 12 ∷ 12 ∷ 0 ∷ 12 ∷ 12 ∷ 12 ∷ 12 ∷ 12 ∷ 12 ∷ 12 ∷ 12 ∷ []
-  pub busy-m25p128 : asked (record-of 4 0 false true (Busy 2)) 0 true ≡ 12 ∷ 12 ∷ 12 ∷ 0 ∷ 12 ∷ 12 ∷ 12 ∷ 12 ∷ 12 ∷ 12 ∷ 14 ∷ 14 ∷ []
-  pub busy-older : asked (record-of 5 0 false true (Busy 2)) 0 true ≡ 12 ∷ 12 ∷ 14 ∷ 0 ∷ 12 ∷ 12 ∷ 12 ∷ 12 ∷ 12 ∷ 12 ∷ 12 ∷ 12 ∷ []
+  pub busy : asked (mid-erase 0 0 false true 2) 0 true ≡ 12 ∷ 12 ∷ 12 ∷ 0 ∷ 12 ∷ 12 ∷ 12 ∷ 12 ∷ 12 ∷ 12 ∷ 12 ∷ 12 ∷ []
+  pub busy-last : asked (mid-erase 0 0 false false 1) 0 true ≡ 12 ∷ 12 ∷ 12 ∷ 0 ∷ 12 ∷ 12 ∷ 12 ∷ 12 ∷ 12 ∷ 12 ∷ 12 ∷ 12 ∷ []
+  -- whatever the cycle
+  pub busy-cycles : map (λ (c : Cycle). asked (busy-of 0 0 false true 2 c) 0 true) (programming 0x1FF (full 0xFF) ∷ erasing-sector 0x7FF ∷ erasing-all ∷ writing true 3 ∷ []) ≡ replicate 4 (12 ∷ 12 ∷ 12 ∷ 0 ∷ 12 ∷ 12 ∷ 12 ∷ 12 ∷ 12 ∷ 12 ∷ 12 ∷ 12 ∷ [])
+  pub busy-m25p128 : asked (mid-erase 4 0 false true 2) 0 true ≡ 12 ∷ 12 ∷ 12 ∷ 0 ∷ 12 ∷ 12 ∷ 12 ∷ 12 ∷ 12 ∷ 12 ∷ 14 ∷ 14 ∷ []
+  pub busy-older : asked (mid-erase 5 0 false true 2) 0 true ≡ 12 ∷ 12 ∷ 14 ∷ 0 ∷ 12 ∷ 12 ∷ 12 ∷ 12 ∷ 12 ∷ 12 ∷ 12 ∷ 12 ∷ []
   -- 13: deep power-down, and not RES
   pub deep : asked (record-of 0 0 false true Deep) 0 true ≡ 13 ∷ 13 ∷ 13 ∷ 13 ∷ 13 ∷ 13 ∷ 13 ∷ 13 ∷ 13 ∷ 13 ∷ 13 ∷ 0 ∷ []
   pub deep-older : asked (record-of 5 0 false true Deep) 0 true ≡ 13 ∷ 13 ∷ 14 ∷ 13 ∷ 13 ∷ 13 ∷ 13 ∷ 13 ∷ 13 ∷ 13 ∷ 13 ∷ 0 ∷ []
@@ -243,22 +251,22 @@ pub record Chip : Type 0 where
   pub codes-m25p32 : known (record-of 3 0 false true Standby) ≡ codes
   pub codes-m25p128 : known (record-of 4 0 false true Standby) ≡ sleepless
   pub codes-older : known (record-of 5 0 false true Standby) ≡ nameless
-  pub codes-busy : known (record-of 0 0 false false (Busy 1)) ≡ codes
+  pub codes-busy : known (mid-erase 0 0 false false 1) ≡ codes
   pub codes-deep : known (record-of 0 0 false true Deep) ≡ codes
   -- the chip's numbers in order, each with all that can come after it
-  pub eleven-first : number usual 0 true [] ∷ number (record-of 0 0 false false (Busy 1)) 7 false [] ∷ number (record-of 0 0 false false Deep) 7 false [] ∷ [] ≡ 11 ∷ 11 ∷ 11 ∷ []
-  pub fourteen-next : number (record-of 4 7 true false (Busy 1)) 7 false (0xAB ∷ []) ∷ number (record-of 3 7 true false Deep) 7 false (0x9E ∷ []) ∷ [] ≡ 14 ∷ 14 ∷ []
-  pub twelve-next : number (record-of 0 3 true false (Busy 1)) 7 false dataless ∷ number (record-of 0 3 true false (Busy 1)) 7 false threeBytes ∷ [] ≡ 12 ∷ 12 ∷ []
+  pub eleven-first : number usual 0 true [] ∷ number (mid-erase 0 0 false false 1) 7 false [] ∷ number (record-of 0 0 false false Deep) 7 false [] ∷ [] ≡ 11 ∷ 11 ∷ 11 ∷ []
+  pub fourteen-next : number (mid-erase 4 7 true false 1) 7 false (0xAB ∷ []) ∷ number (record-of 3 7 true false Deep) 7 false (0x9E ∷ []) ∷ [] ≡ 14 ∷ 14 ∷ []
+  pub twelve-next : number (mid-erase 0 3 true false 1) 7 false dataless ∷ number (mid-erase 0 3 true false 1) 7 false threeBytes ∷ [] ≡ 12 ∷ 12 ∷ []
   pub thirteen-next : number (record-of 0 3 true false Deep) 7 false dataless ∷ number (record-of 0 3 true false Deep) 7 false threeBytes ∷ [] ≡ 13 ∷ 13 ∷ []
   pub fifteen-next : number (bench 3 true false) 0 false dataless ∷ number (bench 3 true false) 0 false threeBytes ∷ number (bench 3 true false) 1 false program ∷ number (bench 3 true false) 1 false settings ∷ [] ≡ 15 ∷ 15 ∷ 15 ∷ 15 ∷ []
   pub sixteen-next : asked (bench 3 true false) 0 false ≡ 0 ∷ 0 ∷ 0 ∷ 0 ∷ 16 ∷ 0 ∷ 0 ∷ 16 ∷ 16 ∷ 16 ∷ 0 ∷ 0 ∷ []
   pub last-two : asked (bench 3 true true) 0 false ≡ 0 ∷ 0 ∷ 0 ∷ 0 ∷ 18 ∷ 0 ∷ 0 ∷ 17 ∷ 17 ∷ 17 ∷ 0 ∷ 0 ∷ []
   -- a refusal before each of them
-  pub host-first : number usual 8 true [] ∷ number usual 8 true (0xFE ∷ []) ∷ number (record-of 0 0 false false (Busy 1)) 8 true program ∷ number (record-of 0 0 false true Deep) 8 true program ∷ number usual 8 true dataless ∷ number (bench 0 false false) 8 true program ∷ number (bench 3 false true) 8 true program ∷ number (bench 0 true true) 8 false settings ∷ [] ≡ 4 ∷ 4 ∷ 4 ∷ 4 ∷ 4 ∷ 4 ∷ 4 ∷ 4 ∷ []
+  pub host-first : number usual 8 true [] ∷ number usual 8 true (0xFE ∷ []) ∷ number (mid-erase 0 0 false false 1) 8 true program ∷ number (record-of 0 0 false true Deep) 8 true program ∷ number usual 8 true dataless ∷ number (bench 0 false false) 8 true program ∷ number (bench 3 false true) 8 true program ∷ number (bench 0 true true) 8 false settings ∷ [] ≡ 4 ∷ 4 ∷ 4 ∷ 4 ∷ 4 ∷ 4 ∷ 4 ∷ 4 ∷ []
 
 -- computed by the checker
 pub chip : Chip
-unfolding hostNumber sound latchAt figuresOf inProtected asNeeded chipNumber decided verdictOf rowOf addressOf protectedOf
+unfolding hostNumber sound latchAt noSlots noCycle slotsSound cycleSound figuresOf inProtected asNeeded chipNumber decided verdictOf rowOf addressOf protectedOf
 chip = record {
   ready = refl;
   ready-m25p10a = refl;
@@ -268,6 +276,7 @@ chip = record {
   ready-older = refl;
   busy = refl;
   busy-last = refl;
+  busy-cycles = refl;
   busy-m25p128 = refl;
   busy-older = refl;
   deep = refl;

@@ -1,6 +1,6 @@
 -- The bits missing told a second time, and computed: bit by bit, slot by slot, page by page, by kind of cycle, and in whole calls on the bench part.
 use mathlib.Core.Path.{_≡_, refl}
-use mathlib.Core.Bool.{true}
+use mathlib.Core.Bool.{true, false}
 use mathlib.Core.List.{List, [], _∷_, _++_, map}
 use Prim.Native.Nat.{ℕ}
 use lib.Count.{onesIn, ones}
@@ -10,20 +10,22 @@ use Rattle.memory.specs.Memory as memory-is
 use Rattle.memory.specs.Missing.{unmet, missingAt, missing, pageOf}
 use Rattle.parts.specs.Parts.{figuresOf}
 use Rattle.parts.specs.Protected.{protectedOf}
-use Rattle.device.specs.declared.cycle.Kind.the-variants.{Settings, Page, Sector, All}
-use Rattle.device.specs.Cycles.{noSlots, touched}
-use Rattle.device.specs.Device.{waitCall, powerUpCall, soundAnswer, waited, poweredUp, sound, statusByte, moded, latched, settled, running, latchAt}
+use Rattle.device.specs.declared.cycle.Kind.the-variants.{Idle, Settings, Page, Sector, All}
+use Rattle.device.specs.Cycles.{noSlots, noCycle, pageCycle, sectorCycle, allCycle, settingsCycle, slotsSound, cycleSound, touched, cut}
+use Rattle.device.specs.Device.{sound, statusByte, moded, latched, settled, remembering, running, started, ended, latchAt}
+use Rattle.device.specs.Time.{afterCycle, finished, lost, waited, timeNumber, waitCall, powerUpCall, lossCall}
 use Rattle.chip.specs.declared.table.Turn.{Turn}
 use Rattle.chip.specs.declared.table.Turn.the-variants.{Keep, Enable, Disable, Start, Sleep, Wake}
 use Rattle.chip.specs.Table.{rowOf, addressOf}
 use Rattle.chip.specs.Answers.{hostNumber, inProtected, asNeeded, chipNumber, decided, verdictOf}
 use Rattle.chip.specs.Line.{byRow, heard, heardRow, driven, lined, drivingAt, firstOf, countOf}
-use Rattle.chip.specs.Change.{cycleOf, changed, missingOf, bpIn, turned}
+use Rattle.chip.specs.Change.{cycleOf, missingOf, bpIn, turned}
 use Rattle.chip.specs.Outcome.{outcomeOf, transacted}
-use Rattle.chip.specs.Events.{waits, starts, sent, missed}
+use Rattle.chip.specs.Events.{waits, starts, loses, sent, missed}
 use Rattle.chip.specs.Events as chip
 use Rattle.chip.specs.Worked.{holds, sees, fresh, usual, told, answers, misses, reads}
 use Rattle.chip.specs.Worked as worked
+use Rattle.told.specs.Cycles.{full}
 
 -- bytes of one value, then one other
 abbrev pub before-last : ℕ → ℕ → ℕ → List ℕ
@@ -61,7 +63,7 @@ pub record Missing : Type 0 where
   pub pages : map (λ (at : ℕ). pageOf at three-pages) (0x000 ∷ 0x0FF ∷ 0x100 ∷ 0x1FF ∷ 0x200 ∷ 0x2FF ∷ 0x300 ∷ []) ≡ replicate 256 0x11 ∷ replicate 256 0x11 ∷ replicate 256 0x22 ∷ replicate 256 0x22 ∷ (0x33 ∷ 0x33 ∷ []) ∷ (0x33 ∷ 0x33 ∷ []) ∷ [] ∷ []
   -- a program alone: FF over 22 and 0F over 22 want six bits and three
   pub program : by-turn (Start Page) ≡ 9
-  pub others : map by-turn (Keep ∷ Enable ∷ Disable ∷ Start Settings ∷ Start Sector ∷ Start All ∷ Sleep ∷ Wake ∷ []) ≡ replicate 8 0
+  pub others : map by-turn (Keep ∷ Enable ∷ Disable ∷ Start Settings ∷ Start Sector ∷ Start All ∷ Start Idle ∷ Sleep ∷ Wake ∷ []) ≡ replicate 9 0
   -- whole calls: bits missing, none in the cycle nor where the program is ignored (15, 16, 17), none of any other instruction, none after an erase
   pub calls : sees
       (answers (0x02 ∷ 0x00 ∷ 0x0C ∷ 0x10 ∷ 0x00 ∷ 0x0F ∷ []) 0 ∷ answers (0x02 ∷ 0x00 ∷ 0x0C ∷ 0x10 ∷ 0xFF ∷ []) 12 ∷ worked.waits 3
@@ -69,16 +71,22 @@ pub record Missing : Type 0 where
       ∷ misses (0x02 ∷ 0x00 ∷ 0x0C ∷ 0x10 ∷ 0xFF ∷ 0xFF ∷ []) 12 ∷ worked.waits 3 ∷ answers (0x06 ∷ []) 0 ∷ answers (0x01 ∷ 0x04 ∷ []) 0 ∷ worked.waits 2
       ∷ answers (0x06 ∷ []) 0 ∷ answers (0x02 ∷ 0x00 ∷ 0x0C ∷ 0x10 ∷ 0xFF ∷ []) 17 ∷ reads (0x03 ∷ 0x00 ∷ 0x0C ∷ 0x10 ∷ 0xFF ∷ 0xFF ∷ []) 4 (0x00 ∷ 0x0F ∷ [])
       ∷ answers (0x01 ∷ 0x00 ∷ []) 0 ∷ worked.waits 2 ∷ answers (0x06 ∷ []) 0 ∷ answers (0xD8 ∷ 0x00 ∷ 0x0C ∷ 0x10 ∷ []) 0 ∷ worked.waits 5
-      ∷ answers (0x06 ∷ []) 0 ∷ answers (0x02 ∷ 0x00 ∷ 0x0C ∷ 0x10 ∷ 0xFF ∷ 0xFF ∷ []) 0 ∷ holds 0xC10 0xFF ∷ []) (fresh usual) ≡ true
-  -- summed over events: 4 of the program, none while it runs, and 8 of the second one after the wait
+      ∷ answers (0x06 ∷ []) 0 ∷ answers (0x02 ∷ 0x00 ∷ 0x0C ∷ 0x10 ∷ 0xFF ∷ 0xFF ∷ []) 0 ∷ holds 0xC10 0xFF ∷ worked.waits 3 ∷ holds 0xC10 0xFF ∷ []) (fresh usual) ≡ true
+  -- counted at the transaction, against the array as it is then: of a program that a loss undid, nothing; of one that it cut, what is left; of one that it completed, all
+  pub after-loss : sees
+      (answers (0x02 ∷ 0x00 ∷ 0x00 ∷ 0x10 ∷ 0x00 ∷ []) 0 ∷ worked.loses 0xFF true ∷ answers (0x06 ∷ []) 0 ∷ answers (0x02 ∷ 0x00 ∷ 0x00 ∷ 0x10 ∷ 0xFF ∷ []) 0 ∷ worked.waits 3
+      ∷ answers (0x06 ∷ []) 0 ∷ answers (0x02 ∷ 0x00 ∷ 0x00 ∷ 0x10 ∷ 0x00 ∷ []) 0 ∷ worked.loses 0x3C true ∷ answers (0x06 ∷ []) 0 ∷ misses (0x02 ∷ 0x00 ∷ 0x00 ∷ 0x10 ∷ 0xFF ∷ []) 4 ∷ worked.waits 3
+      ∷ answers (0x06 ∷ []) 0 ∷ answers (0x02 ∷ 0x00 ∷ 0x00 ∷ 0x10 ∷ 0x00 ∷ []) 0 ∷ worked.loses 0x00 false ∷ answers (0x06 ∷ []) 0 ∷ misses (0x02 ∷ 0x00 ∷ 0x00 ∷ 0x10 ∷ 0xFF ∷ []) 8 ∷ []) (fresh usual) ≡ true
+  -- summed over events: 4 of the program, none while it runs, and 8 of the second one after the wait; then 8 again after a power loss
   pub summed : missed
       (chip.sends (0x02 ∷ 0x00 ∷ 0x00 ∷ 0x00 ∷ 0x0F ∷ []) 0 true ∷ chip.sends (0x02 ∷ 0x00 ∷ 0x00 ∷ 0x01 ∷ 0xFF ∷ []) 0 true ∷ waits 3
-      ∷ chip.sends (0x06 ∷ []) 0 true ∷ chip.sends (0x02 ∷ 0x00 ∷ 0x00 ∷ 0x01 ∷ 0xFF ∷ []) 0 true ∷ starts ∷ [])
-      (record { device = usual; array = replicate 4096 0x00 }) ≡ 12
+      ∷ chip.sends (0x06 ∷ []) 0 true ∷ chip.sends (0x02 ∷ 0x00 ∷ 0x00 ∷ 0x01 ∷ 0xFF ∷ []) 0 true ∷ starts
+      ∷ loses (full 0xFF) true ∷ chip.sends (0x06 ∷ []) 0 true ∷ chip.sends (0x02 ∷ 0x00 ∷ 0x00 ∷ 0x01 ∷ 0xFF ∷ []) 0 true ∷ loses (full 0xFF) false ∷ [])
+      (record { device = usual; array = replicate 4096 0x00 }) ≡ 20
 
 -- computed by the checker
 pub is-missing : Missing
-unfolding sees sent mapAt window sumAt memory-is.blank memory-is.filled memory-is.programmed memory-is.erased memory-is.reached memory-is.landed ones onesIn missingAt missing pageOf figuresOf protectedOf waitCall powerUpCall soundAnswer waited poweredUp sound statusByte moded latched settled running latchAt rowOf addressOf hostNumber inProtected asNeeded chipNumber decided verdictOf byRow heard heardRow driven lined drivingAt firstOf countOf noSlots cycleOf touched changed missingOf bpIn turned outcomeOf transacted
+unfolding sees sent mapAt window sumAt memory-is.blank memory-is.filled memory-is.programmed memory-is.erased memory-is.cutPage memory-is.cutSector memory-is.reached memory-is.landed ones onesIn missingAt missing pageOf figuresOf protectedOf timeNumber waitCall powerUpCall lossCall afterCycle finished lost waited sound statusByte moded latched settled remembering running started ended latchAt rowOf addressOf hostNumber inProtected asNeeded chipNumber decided verdictOf byRow heard heardRow driven lined drivingAt firstOf countOf noSlots noCycle pageCycle sectorCycle allCycle settingsCycle slotsSound cycleSound cycleOf touched cut missingOf bpIn turned outcomeOf transacted
 is-missing = record {
   ones-of = refl;
   ones-under = refl;
@@ -94,5 +102,6 @@ is-missing = record {
   program = refl;
   others = refl;
   calls = refl;
+  after-loss = refl;
   summed = refl;
 }

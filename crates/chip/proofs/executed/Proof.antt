@@ -5,10 +5,10 @@ use Rattle.chip.proofs.executed.Statement.{statement}
 use Rattle.chip.proofs.executed.Tie as tie
 
 cast-t10 : tie.Need-cast-t10
-cast-t10 c = record { fits = omega (arith, c .before .before .before .pre .0) }
+cast-t10 c = record { fits = omega (arith, c .before .before .before .before .pre .0) }
 
 cast-t11 : tie.Need-cast-t11
-cast-t11 c = record { fits = omega (arith, c .before .before .before .before .pre .1) }
+cast-t11 c = record { fits = omega (arith, c .before .before .before .before .before .pre .1) }
 
 returns : tie.Need-returns
 returns c = rw (c .before .before .next-record .ensures)

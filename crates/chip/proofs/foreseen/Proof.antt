@@ -35,23 +35,23 @@ returns-2 c =
 
 executed-requires : tie.Need-executed-requires
 executed-requires c κs =
-    let a = c .before .before .before .before .before .before .before .args in
-    let i = c .before .before .before .before .before .read-instruction .ensures in
-    let h = executed _ _ _ _ _ _ (verdict-so (a .device) (a .array) (a .sent .now) (a .pulses) (a .w) (a .response) _ i (c .before .before .before .before .judge .ensures) ∙ c .before .before .enum-told .given .1) .0 .short in
-    let s = span-at (a .device) (a .sent .now) _ i (c .before .span-driven .ensures) [] in
+    let a = c .before .before .before .before .before .before .args in
+    let i = c .before .before .before .before .read-instruction .ensures in
+    let h = executed _ _ _ _ _ _ (verdict-so (a .device) (a .array) (a .sent .now) (a .pulses) (a .w) (a .response) _ i (c .before .before .before .judge .ensures) ∙ c .before .enum-told .given .1) .0 .short in
+    let s = span-at (a .device) (a .sent .now) _ i (c .span-driven .ensures) [] in
     (omega (arith, h, s .0, first-le (a .device) [] (a .sent .now)), omega (arith, h, s .1, count-le (a .device) [] (a .sent .now)))
 
 returns-3 : tie.Need-returns-3
 unfolding outcomeOf
 returns-3 c =
-    let a = c .before .before .before .before .before .before .before .before .args in
-    let i = c .before .before .before .before .before .before .read-instruction .ensures in
+    let a = c .before .before .before .before .before .before .before .args in
+    let i = c .before .before .before .before .before .read-instruction .ensures in
     let done = c .executed .ensures in
-    foreseen-by (a .device) (a .array) (a .sent .now) (a .pulses) (a .w) (a .response) Executed (verdict-so (a .device) (a .array) (a .sent .now) (a .pulses) (a .w) (a .response) _ i (c .before .before .before .before .before .judge .ensures) ∙ c .before .before .before .enum-told .given .1)
+    foreseen-by (a .device) (a .array) (a .sent .now) (a .pulses) (a .w) (a .response) Executed (verdict-so (a .device) (a .array) (a .sent .now) (a .pulses) (a .w) (a .response) _ i (c .before .before .before .before .judge .ensures) ∙ c .before .before .enum-told .given .1)
     (ap (λ (o : Done). o .answer .missing) done)
     (λ xs r.
-    let s = span-at (a .device) (a .sent .now) _ i (c .before .before .span-driven .ensures) xs in
-    (ap (λ (o : Done). o .answer .number) done, ap (λ (o : Done). o .answer .first) done ∙ s .0, ap (λ (o : Done). o .answer .count) done ∙ s .1, ap (λ (o : Done). o .device) done ∙ rw (c .before .byte-at .ensures, i)))
+    let s = span-at (a .device) (a .sent .now) _ i (c .before .span-driven .ensures) xs in
+    (ap (λ (o : Done). o .answer .number) done, ap (λ (o : Done). o .answer .first) done ∙ s .0, ap (λ (o : Done). o .answer .count) done ∙ s .1, ap (λ (o : Done). o .device) done ∙ rw i))
 
 pub foreseen-spec : {M : Type 1} → statement M
 foreseen-spec =
@@ -66,7 +66,6 @@ foreseen-spec =
     (λ c κs. search needs)
     returns-2
     (λ c. search needs)
-    (λ c κs. search needs)
     (λ c κs. search needs)
     executed-requires
     returns-3)

@@ -36,9 +36,9 @@ execute-requires c κs =
 
 returns-3 : tie.Need-returns-3
 returns-3 c =
-    let b = c .before .before .before .before .before .before .before .before .before in
+    let b = c .before .before .before .before .before .before .before in
     let a = b .before .before .before .before .before .args in
-    by-verdict (a .device) (a .array .now) (a .sent .now) (a .pulses) (a .w) (a .response .now) Executed (verdict-so (a .device) (length (a .array .now)) (a .sent .now) (a .pulses) (a .w) (length (a .response .now)) _ (b .before .read-instruction .ensures) (b .judge .ensures) ∙ c .before .before .before .before .before .before .before .enum-told .given .1) (c .before .before .before .before .execute .ensures)
+    by-verdict (a .device) (a .array .now) (a .sent .now) (a .pulses) (a .w) (a .response .now) Executed (verdict-so (a .device) (length (a .array .now)) (a .sent .now) (a .pulses) (a .w) (length (a .response .now)) _ (b .before .read-instruction .ensures) (b .judge .ensures) ∙ c .before .before .before .before .before .enum-told .given .1) (c .before .before .execute .ensures)
 
 pub transact-spec : {M : Type 1} → statement M
 transact-spec =

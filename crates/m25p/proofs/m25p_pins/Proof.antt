@@ -8,7 +8,7 @@ use Rattle.chip.specs.Outcome.{bare}
 use Rattle.pins.specs.Run.{Ran}
 use Rattle.pins.proofs.Theorems.{run-sound, run-few}
 use Rattle.m25p.specs.Calls.{packedAnswer}
-use Rattle.m25p.proofs.Laws.{unpacked-sound, packs, written, kept}
+use Rattle.m25p.proofs.Laws.{unpacked-sound, stores, same-next}
 use Rattle.m25p.proofs.Pins.{refused, ran, next-is}
 use borrow.Author.Needs.{needs}
 use Rattle.m25p.proofs.m25p_pins.Statement.{statement}
@@ -21,33 +21,20 @@ returns c =
     refused (a .packed .now) (a .array .now) (a .samples .now) (a .output .now) (λ z. c .before .if1 .taken (e ∙ z)) (c .bare .ensures ∙ ap (λ (k : ℕ). packedAnswer (bare k)) e)
 
 packed-answer-requires : tie.Need-packed-answer-requires
-packed-answer-requires c κs = run-few (c .before .before .before .before .before .before .before .before .before .before .before .run .ensures)
+packed-answer-requires c κs = run-few (c .before .before .before .before .before .before .before .before .before .run .ensures)
 
 returns-2 : tie.Need-returns-2
 returns-2 c =
-    let t = c .before .before .before .before .before .before .before .before .before .before .before .before in
+    let t = c .before .before .before .before .before .before .before .before .before .before in
     let u = t .before .before .before .before .before .unpack in
     let a = t .before .before .before .before .before .before .before .before .before .before .before .args in
     let e = ap (λ (x : Checked). x .answer) (u .ensures) in
     let z : unpackOf (a .packed .now) .answer ≡ 0 = sym e ∙ t .before .before .before .if1 .left in
     let m : Ran (unpackOf (a .packed .now) .device) (a .array .now) (a .samples .now) (a .output .now) (t .run .result) (t .run .last .1 .0) (t .run .last .1 .1 .1 .0) = rw (← u .ensures) (t .run .ensures) in
-    let y = c .before .before .before .before .before .if2 .taken in
     let s = run-sound m (unpacked-sound (a .packed .now) z) in
+    let k = t .run .result .answer .number in
     ran (a .packed .now) (a .array .now) (a .samples .now) (a .output .now) z m (c .packed-answer .ensures)
-    (written _ (a .packed .now) y (next-is m y) (packs (c .before .before .before .pack .ensures) (opened (a .packed .now) z .long) s))
-
-packed-answer-requires-2 : tie.Need-packed-answer-requires-2
-packed-answer-requires-2 c κs = run-few (c .before .before .before .before .before .before .before .run .ensures)
-
-returns-3 : tie.Need-returns-3
-returns-3 c =
-    let t = c .before .before .before .before .before .before .before .before in
-    let u = t .before .before .before .before .before .unpack in
-    let a = t .before .before .before .before .before .before .before .before .before .before .before .args in
-    let e = ap (λ (x : Checked). x .answer) (u .ensures) in
-    let z : unpackOf (a .packed .now) .answer ≡ 0 = sym e ∙ t .before .before .before .if1 .left in
-    let m : Ran (unpackOf (a .packed .now) .device) (a .array .now) (a .samples .now) (a .output .now) (t .run .result) (t .run .last .1 .0) (t .run .last .1 .1 .1 .0) = rw (← u .ensures) (t .run .ensures) in
-    ran (a .packed .now) (a .array .now) (a .samples .now) (a .output .now) z m (c .packed-answer2 .ensures) (kept _ _ _ (c .before .if2 .left))
+    (stores k (t .run .result .device) (a .packed .now) (c .before .before .before .store .ensures) (opened (a .packed .now) z .long) (λ y. s) ∙ same-next k _ _ (a .packed .now) (next-is m))
 
 pub m25p-pins-spec : {M : Type 1} → statement M
 m25p-pins-spec =
@@ -63,9 +50,4 @@ m25p-pins-spec =
     (λ c. search needs)
     (λ c. search needs)
     (λ c. search needs)
-    returns-2
-    packed-answer-requires-2
-    (λ c. search needs)
-    (λ c. search needs)
-    (λ c. search needs)
-    returns-3)
+    returns-2)

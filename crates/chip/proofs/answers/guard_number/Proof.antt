@@ -6,7 +6,7 @@ use Rattle.chip.proofs.answers.guard_number.Tie as tie
 
 returns : tie.Need-returns
 returns c =
-    c .when2 .ensures ∙ rw (c .before .when .ensures, c .before .before .before .is-settings .ensures, c .before .before .before .before .is-guarded .ensures, c .before .before .before .before .before .before .turn .given .1)
+    c .when2 .ensures ∙ rw (c .before .when .ensures, c .before .before .before .before .of .ensures, c .before .before .before .before .before .is-guarded .ensures, c .before .before .before .before .before .before .before .turn .given .1)
 
 returns-2 : tie.Need-returns-2
 returns-2 c = rw (c .enum-told .given .1)

@@ -16,6 +16,9 @@ returns-3 c = c .in-protected2 .ensures ∙ rw (c .before .enum-told3 .given .1)
 returns-4 : tie.Need-returns-4
 returns-4 c = rw (c .before .enum-told4 .given .1)
 
+returns-5 : tie.Need-returns-5
+returns-5 c = rw (c .enum-told5 .given .1)
+
 pub is-guarded-spec : {M : Type 1} → statement M
 is-guarded-spec =
     tie.close
@@ -26,7 +29,9 @@ is-guarded-spec =
     (λ c. search needs)
     (λ c κs. search needs)
     (λ c. search needs)
+    (λ c. search needs)
     returns
     returns-2
     returns-3
-    returns-4)
+    returns-4
+    returns-5)

@@ -20,7 +20,7 @@ returns-3 c = c .latched2 .ensures ∙ rw (c .before .enum-told3 .given .1)
 returns-4 : tie.Need-returns-4
 unfolding turned
 returns-4 c =
-    c .running .ensures ∙ rw (c .before .duration .ensures, c .before .before .settled-by .ensures, c .before .before .before .before .turn .given .1)
+    c .started .ensures ∙ rw (c .before .duration .ensures, c .before .before .cycle-of .ensures, c .before .before .before .before .turn .given .1)
 
 returns-5 : tie.Need-returns-5
 unfolding turned

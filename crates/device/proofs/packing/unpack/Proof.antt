@@ -1,10 +1,6 @@
 -- `device::packing::unpack` meets its contract.
-use mathlib.Core.Path.{_≡_, sym}
-use mathlib.Core.Bool.{true, false, _&&_}
-use denote.Ref.{now}
-use Rattle.device.specs.Device.{sound}
-use Rattle.device.specs.Packing.{formed, fieldsOf}
-use Rattle.device.proofs.Calls.{unpacked-long, unpacked-bad, unpacked-good}
+use mathlib.Core.Path.{sym, _∙_}
+use Rattle.device.proofs.Calls.{opened-by, unpacked-long, unpacked-bad, unpacked-good}
 use borrow.Author.Needs.{needs}
 use Rattle.device.proofs.packing.unpack.Statement.{statement}
 use Rattle.device.proofs.packing.unpack.Tie as tie
@@ -13,18 +9,18 @@ returns : tie.Need-returns
 returns c = rw (c .zero .ensures) (sym (unpacked-long _ (c .before .if1 .taken)))
 
 returns-2 : tie.Need-returns-2
-unfolding formed
 returns-2 c =
-    let b = now (c .before .before .before .before .before .before .args .packed) in
-    let t : formed b && sound (fieldsOf b) ≡ true = cc in
-    rw (c .before .before .before .fields .ensures) (sym (unpacked-good b (c .before .before .before .before .if1 .left) t))
+    let f = c .before .before .before in
+    let long = f .before .if1 .left in
+    let t = opened-by _ long (f .fields .ensures) (c .before .before .begins-as .ensures) (c .before .sound .ensures) in
+    rw (f .fields .ensures) (sym (unpacked-good _ long (sym t ∙ c .if2 .taken)))
 
 returns-3 : tie.Need-returns-3
-unfolding formed
 returns-3 c =
-    let b = now (c .before .before .before .before .before .before .before .args .packed) in
-    let t : formed b && sound (fieldsOf b) ≡ false = cc in
-    rw (c .zero2 .ensures) (sym (unpacked-bad b (c .before .before .before .before .before .if1 .left) t))
+    let f = c .before .before .before .before in
+    let long = f .before .if1 .left in
+    let t = opened-by _ long (f .fields .ensures) (c .before .before .before .begins-as .ensures) (c .before .before .sound .ensures) in
+    rw (c .zero2 .ensures) (sym (unpacked-bad _ long (sym t ∙ c .before .if2 .left)))
 
 pub unpack-spec : {M : Type 1} → statement M
 unpack-spec =

@@ -1,29 +1,17 @@
 -- `device::packing::write` meets its contract.
-use mathlib.Core.Path.{refl}
 use Rattle.slices.proofs.Stores.{store-next}
-use Rattle.device.specs.Packing.{packOf}
+use Rattle.device.specs.Packing.{frontLength, frontOf, packOf}
+use Rattle.device.proofs.Calls.{length-front}
 use borrow.Author.Needs.{needs}
 use Rattle.device.proofs.packing.write.Statement.{statement}
 use Rattle.device.proofs.packing.write.Tie as tie
 
--- each store comes four places after the one before
 returns : tie.Need-returns
 unfolding packOf
 returns c =
-    let s6 = c .before .before in
-    let s5 = s6 .before .before .before .before in
-    let s4 = s5 .before .before .before .before in
-    let s3 = s4 .before .before .before .before in
-    let s2 = s3 .before .before .before .before in
-    let s1 = s2 .before .before .before .before .before in
-    let f1 = rw (s1 .before .before .before .head-bytes .ensures) at (s1 .store .ensures) in
-    let f2 = store-next _ _ _ _ f1 refl (rw (s2 .before .ticks-of .ensures) at (s2 .store-word .ensures)) in
-    let f3 = store-next _ _ _ _ f2 refl (s3 .store-word2 .ensures) in
-    let f4 = store-next _ _ _ _ f3 refl (s4 .store-word3 .ensures) in
-    let f5 = store-next _ _ _ _ f4 refl (s5 .store-word4 .ensures) in
-    store-next _ _ _ _ f5 refl (s6 .store-word5 .ensures)
+    let f = c .before .before .before .before .before .before .before in
+    let d = f .before .before .before .before .before .args .d in
+    store-next frontLength (frontOf d) (d .cycle .slots) _ (f .write-front .ensures) (length-front d) (c .before .before .store .ensures)
 
 pub write-spec : {M : Type 1} → statement M
-write-spec =
-    tie.close
-    (tie.spec (λ c κs. search needs) (λ c. search needs) (λ c κs. search needs) (λ c κs. search needs) (λ c κs. search needs) (λ c κs. search needs) (λ c κs. search needs) (λ c κs. search needs) (λ c κs. search needs) (λ c. search needs) returns)
+write-spec = tie.close (tie.spec (λ c κs. search needs) (λ c. search needs) (λ c κs. search needs) (λ c. search needs) returns)

@@ -22,22 +22,9 @@ returns-4 : tie.Need-returns-4
 unfolding touched
 returns-4 c = c .before .before .erase-all .ensures ∙ rw (c .before .before .before .before .enum-told4 .given .1)
 
+returns-5 : tie.Need-returns-5
+unfolding touched
+returns-5 c = rw (c .enum-told5 .given .1) (sym (map-same _))
+
 pub complete-spec : {M : Type 1} → statement M
-complete-spec =
-    tie.close
-    (tie.spec
-    (λ c. search needs)
-    (λ c. search needs)
-    (λ c. search needs)
-    (λ c κs. search needs)
-    (λ c. search needs)
-    (λ c κs. search needs)
-    (λ c. search needs)
-    (λ c κs. search needs)
-    returns
-    (λ c. search needs)
-    returns-2
-    (λ c. search needs)
-    returns-3
-    (λ c. search needs)
-    returns-4)
+complete-spec = tie.close (tie.spec (λ c. search needs) (λ c. search needs) (λ c. search needs) (λ c κs. search needs) (λ c. search needs) (λ c κs. search needs) (λ c. search needs) (λ c κs. search needs) (λ c. search needs) returns (λ c. search needs) returns-2 (λ c. search needs) returns-3 (λ c. search needs) returns-4 returns-5)

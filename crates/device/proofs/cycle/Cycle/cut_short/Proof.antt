@@ -1,0 +1,30 @@
+-- `device::cycle::Cycle::cut_short` meets its contract.
+use mathlib.Core.Path.{sym, _∙_}
+use Rattle.slices.proofs.Maps.{map-same}
+use Rattle.device.specs.Cycles.{cut}
+use borrow.Author.Needs.{needs}
+use Rattle.device.proofs.cycle.Cycle.cut_short.Statement.{statement}
+use Rattle.device.proofs.cycle.Cycle.cut_short.Tie as tie
+
+returns : tie.Need-returns
+unfolding cut
+returns c = rw (c .enum-told .given .1) (sym (map-same _))
+
+returns-2 : tie.Need-returns-2
+unfolding cut
+returns-2 c = c .before .before .cut-page .ensures ∙ rw (c .before .before .before .before .enum-told2 .given .1)
+
+returns-3 : tie.Need-returns-3
+unfolding cut
+returns-3 c = c .before .before .cut-sector .ensures ∙ rw (c .before .before .before .before .enum-told3 .given .1)
+
+returns-4 : tie.Need-returns-4
+unfolding cut
+returns-4 c = c .before .before .cut-all .ensures ∙ rw (c .before .before .before .before .enum-told4 .given .1)
+
+returns-5 : tie.Need-returns-5
+unfolding cut
+returns-5 c = rw (c .enum-told5 .given .1) (sym (map-same _))
+
+pub cut-short-spec : {M : Type 1} → statement M
+cut-short-spec = tie.close (tie.spec (λ c. search needs) (λ c. search needs) (λ c. search needs) (λ c κs. search needs) (λ c. search needs) (λ c κs. search needs) (λ c. search needs) (λ c κs. search needs) (λ c. search needs) returns (λ c. search needs) returns-2 (λ c. search needs) returns-3 (λ c. search needs) returns-4 returns-5)

@@ -1,0 +1,23 @@
+-- `device::cycle::Uses::of` meets its contract.
+use mathlib.Core.Path.{_∙_}
+use borrow.Author.Needs.{needs}
+use Rattle.device.proofs.cycle.Uses.of.Statement.{statement}
+use Rattle.device.proofs.cycle.Uses.of.Tie as tie
+
+returns : tie.Need-returns
+returns c = c .row .ensures ∙ rw (c .before .enum-told .given .1)
+
+returns-2 : tie.Need-returns-2
+returns-2 c = c .row2 .ensures ∙ rw (c .before .enum-told2 .given .1)
+
+returns-3 : tie.Need-returns-3
+returns-3 c = c .row3 .ensures ∙ rw (c .before .enum-told3 .given .1)
+
+returns-4 : tie.Need-returns-4
+returns-4 c = c .row4 .ensures ∙ rw (c .before .enum-told4 .given .1)
+
+returns-5 : tie.Need-returns-5
+returns-5 c = c .row5 .ensures ∙ rw (c .before .enum-told5 .given .1)
+
+pub of-spec : {M : Type 1} → statement M
+of-spec = tie.close (tie.spec (λ c. search needs) (λ c κs. search needs) (λ c. search needs) (λ c κs. search needs) (λ c. search needs) (λ c κs. search needs) (λ c. search needs) (λ c κs. search needs) (λ c. search needs) (λ c κs. search needs) returns returns-2 returns-3 returns-4 returns-5)
