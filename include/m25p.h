@@ -226,8 +226,8 @@ uint64_t m25p_transact(uint8_t *record, size_t record_len,
 uint64_t m25p_wait(uint8_t *record, size_t record_len,
                    uint8_t *array, size_t array_len, uint32_t ticks);
 
-/* Power off and on: standby, latch reset. A running cycle is completed, on the array that is lent here;
- * else BP, SRWD and array are kept, and the durations always. */
+/* Power off and on: standby, latch reset. A running cycle is completed, on the array that is lent here.
+ * Nothing else changes. */
 uint64_t m25p_power_up(uint8_t *record, size_t record_len,
                        uint8_t *array, size_t array_len);
 
@@ -237,7 +237,7 @@ uint64_t m25p_power_up(uint8_t *record, size_t record_len,
  *                 a 1, the bit was not reached; with a mask of 00 the program is complete
  *   erases        each byte of the sector, or of the array, becomes itself OR its mask byte: where the mask
  *                 has a 0, the bit was not reached; with a mask of FF the erase is complete
- *   status write  complete for yes, absent for no: yes is no for 0, yes for anything else
+ *   status write  complete if yes is not 0, absent if it is 0
  *
  * A byte's mask byte is mask[i % 256] for byte i of the array. The array is the one that is lent here. yes
  * does not matter for programs and erases, nor the mask for a status write; outside a cycle neither does,

@@ -89,8 +89,8 @@ impl Chip {
         executed(calls::wait(&mut self.record, &mut self.array, ticks));
     }
 
-    /// Power off and on: standby, with the latch reset. A running cycle is completed; else the settings and
-    /// the array are kept.
+    /// Power off and on: standby, with the latch reset. A running cycle is completed; nothing else
+    /// changes.
     pub fn power_up(&mut self) {
         executed(calls::power_up(&mut self.record, &mut self.array));
     }
@@ -103,7 +103,8 @@ impl Chip {
     ///   0 in the mask was not reached;
     /// - a status write is complete on yes and absent on no.
     ///
-    /// The mask's byte is the one at the byte's place in its page.
+    /// The mask's byte is the one at the byte's place in its page. The mask does not matter for a status write,
+    /// nor yes for a program or an erase; outside a cycle neither does.
     pub fn loss(&mut self, mask: &[u8; MASK_BYTES], yes: bool) {
         executed(calls::loss(&mut self.record, &mut self.array, mask, u32::from(yes)));
     }

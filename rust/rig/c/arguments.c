@@ -148,16 +148,17 @@ static int right_power_up(const struct call *call)
     return call->answer == 0 && rested() && second_page(0x5A & 0xF0);
 }
 
-/* The mask is all 5B, as its room is filled. */
+/* The mask is all 02. */
 static void prepare_loss(struct call *call)
 {
     set(call, 4, (const uint64_t[]){292, M25P_M25P10A_BYTES, 256, 1});
     record(room[0], 1);
+    memset(room[2], 0x02, 256);
 }
 
 static int right_loss(const struct call *call)
 {
-    return call->answer == 0 && rested() && second_page(0x5A & (0xF0 | 0x5B));
+    return call->answer == 0 && rested() && second_page(0x5A & (0xF0 | 0x02)) && room[2][0] == 0x02;
 }
 
 /* A transaction of five bytes from this sample on, then Select high: 40 clock pulses of two samples, with

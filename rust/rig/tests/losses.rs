@@ -24,7 +24,7 @@ fn starts(sweep: &mut Sweep, part: u8) -> [Vec<u8>; 4] {
     [addressed(PP, address, &data), addressed(SE, address, &[]), vec![BE], vec![WRSR, 0x88]]
 }
 
-/// Every kind, of one to five ticks, cut after each tick, with masks of 00, of FF and random, with yes and with no;
+/// Every kind, of 1, 2, 3 and 5 ticks, cut after each tick, with masks of 00, of FF and random, with yes and with no;
 /// then power is lost once more. The same instruction is also waited out and powered up after each tick.
 #[test]
 fn cuts_at_every_tick() {

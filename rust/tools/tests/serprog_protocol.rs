@@ -299,6 +299,11 @@ fn refused_options() {
         (&format!("{part} --image"), "--image has no value."),
         (&format!("{part} --cut-after 0"), "--cut-after is 1 to 1000000000, not 0."),
         (&format!("{part} --cut-after"), "--cut-after has no value."),
+        (&format!("{part} --cut-after x"), "--cut-after is 1 to 1000000000, not x."),
+        (
+            &format!("{part} --cut-after 1000000001"),
+            "--cut-after is 1 to 1000000000, not 1000000001.",
+        ),
         (&format!("{part} --cut-after 1 --seed -1"), "--seed is 0 to 4294967295, not -1."),
         (&format!("{part} --seed 1"), "--seed is given without --cut-after."),
     ] {

@@ -39,10 +39,10 @@ impl Generator {
         let anywhere = self.rng.below(figures.bytes);
         let near = (self.spot + self.rng.below(600)) % figures.bytes;
         let address = self.rng.pick(&[0, figures.bytes - 1, anywhere, near, near]);
-        let bulk = if Self::large(part) { self.rng.below(80) } else { self.rng.below(8) };
-        match bulk {
-            0 | 1 => Cycle::BulkErase,
-            2 | 3 => Cycle::SectorErase { address },
+        let seldom = Self::large(part) && !self.rng.one_in(10);
+        match self.rng.below(8) {
+            0 | 1 if !seldom => Cycle::BulkErase,
+            0..=3 => Cycle::SectorErase { address },
             4 => Cycle::Settings {
                 bp: self.rng.byte() & figures.highest_bp,
                 srwd: self.rng.one_in(2),

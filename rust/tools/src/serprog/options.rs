@@ -32,13 +32,14 @@ serprog --part NAME [option]...   an M25P chip for flashrom, on a loopback port
   --sector-erase N   ticks of a sector erase; 1000
   --bulk-erase N     ticks of a bulk erase; 10000
   --write-status N   ticks of a status write; 5
-  --trace            print each transaction and wait as a line of the bench, with its answer, and
+  --trace            print each transaction, wait and power loss as a line, with its answer, and
                      with the bits missing where an executed program wants bits 1 that are 0
   --warn-missing     say on standard error that an erase was missing: once, at the first such
                      program, with its page's address in hexadecimal and the bits missing
   --cut-after N      lose power in the N-th cycle (program, erase or status write) that a client
-                     starts, and have it back at once; a line on standard error tells of it
-  --seed S           what that loss leaves of the cycle, 0 to 4294967295; 1
+                     starts, 1 to 1000000000, and have it back at once; a line on standard error
+                     tells of it
+  --seed S           what that loss leaves of the cycle, 0 to 4294967295; 1. With --cut-after only
 ";
 
 #[derive(Clone, Debug, PartialEq, Eq)]
