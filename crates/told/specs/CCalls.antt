@@ -22,7 +22,7 @@ use Rattle.chip.specs.Change.{cycleOf, missingOf, bpIn, turned}
 use Rattle.chip.specs.Outcome.{bare, outcomeOf, transacted}
 use Rattle.m25p.specs.Calls.{packedAnswer, high, packedBy, transactedC, timedC, deliveryC}
 use Rattle.told.specs.Cycles.{full, row, some-slots, some-mask}
-use Rattle.told.specs.Times.{all-3C, second-page, second-sector}
+use Rattle.told.specs.TimeCalls.{all-3C, second-page, second-sector}
 
 -- ---- packed bytes
 

@@ -5,7 +5,7 @@ pub mod Record
 pub mod Packing
 pub mod Times
 pub mod Answers
-pub mod Refused
+pub mod TimeCalls
 pub mod Lines
 pub mod Effects
 pub mod Places

@@ -1,4 +1,4 @@
--- Waiting, power-up and power loss told a second time on the bench part, every byte of the array, and computed: what is left before the last tick and after it, of a cycle that is cut, and where a call is refused.
+-- Waiting, power-up and power loss told a second time, and computed: what is left of record and array before the last tick and after it, and of a cycle that is cut, on the first 258 bytes of the bench part's array; then the other parts.
 use mathlib.Core.Path.{_≡_, refl}
 use mathlib.Core.Bool.{Bool, true, false}
 use mathlib.Core.List.{List, [], _∷_, _++_, map}
@@ -10,122 +10,104 @@ use Rattle.parts.specs.Parts.{figuresOf}
 use Rattle.device.specs.declared.Mode.the-variants.{Standby, Deep}
 use Rattle.device.specs.declared.cycle.Cycle.{Cycle}
 use Rattle.device.specs.Chip.{Chip, chip}
-use Rattle.device.specs.Cycles.{noSlots, noCycle, slotsSound, cycleSound, touched, cut}
-use Rattle.device.specs.Device.{latchAt, moded, settled, remembering, running, ended, sound, statusByte}
-use Rattle.device.specs.Time.{Timed, afterCycle, finished, lost, waited, timeNumber, waitCall, powerUpCall, lossCall}
+use Rattle.device.specs.Cycles.{noSlots, noCycle, touched, cut}
+use Rattle.device.specs.Device.{latchAt, moded, settled, remembering, running, ended, statusByte}
+use Rattle.device.specs.Time.{afterCycle, finished, lost, waited}
 use Rattle.chip.specs.Worked.{record-of, bench}
 use Rattle.told.specs.Cycles.{full, row, programming, erasing-sector, erasing-all, writing, busy-of, some-slots, some-mask}
 
 -- ---- short forms
 
--- 4,096 bytes 3C
-abbrev pub all-3C : List ℕ
-all-3C = replicate 4096 0x3C
-
--- the second page, 000100 to 0001FF, is another; the rest is 3C
-abbrev pub second-page : List ℕ → List ℕ
-second-page p = replicate 256 0x3C ++ (p ++ replicate 3584 0x3C)
-
--- the second sector, 000400 to 0007FF, is four times a page; the rest is 3C
-abbrev pub second-sector : List ℕ → List ℕ
-second-sector p = replicate 1024 0x3C ++ (p ++ (p ++ (p ++ (p ++ replicate 2048 0x3C))))
-
--- every one of the sixteen pages is this one
-abbrev pub every-page : List ℕ → List ℕ
-every-page p = let four = p ++ (p ++ (p ++ p)) in four ++ (four ++ (four ++ four))
-
--- the bench part, BP 1, SRWD 0, latch set, with so many ticks left of a cycle, beside 4,096 bytes 3C
-abbrev pub begun : ℕ → Cycle → Chip
-begun t c = chip (busy-of 0 1 false true t c) all-3C
+-- the bench part, BP 1, SRWD 0, latch set, with so many ticks left of a cycle, beside an array
+abbrev pub begun : ℕ → Cycle → List ℕ → Chip
+begun t c array = chip (busy-of 0 1 false true t c) array
 
 -- the same on the last tick, latch reset
-abbrev pub on-last : Cycle → Chip
-on-last c = chip (busy-of 0 1 false false 1 c) all-3C
+abbrev pub on-last : Cycle → List ℕ → Chip
+on-last c array = chip (busy-of 0 1 false false 1 c) array
 
 -- the bench part in standby, latch reset, by BP and SRWD, beside an array
 abbrev pub rests : ℕ → Bool → List ℕ → Chip
 rests b s array = chip (bench b s false) array
 
--- answered 0, and this chip is left
-abbrev pub leaves : Chip → Timed
-leaves c = record { answer = 0; chip = c }
-
--- a program at 0001FF
-abbrev pub program : Cycle
-program = programming 0x1FF some-slots
-
--- it is completed: 3C and the slots
-abbrev pub programmed : Chip
-programmed = rests 1 false (second-page (row 0x30 0x0C 0x00 0x18))
-
--- a sector erase at 0007FF
-abbrev pub erase : Cycle
-erase = erasing-sector 0x7FF
-
--- it is completed: FF in that sector
-abbrev pub erased : Chip
-erased = rests 1 false (second-sector (full 0xFF))
-
--- a bulk erase is completed: FF everywhere
-abbrev pub wiped : Chip
-wiped = rests 1 false (every-page (full 0xFF))
-
 -- a write of SRWD 1 and BP 2
 abbrev pub write : Cycle
 write = writing true 2
 
--- it is completed
-abbrev pub written : Chip
-written = rests 2 true all-3C
+-- ---- the first 258 bytes
 
--- ---- waiting
+-- a page and two bytes, every byte 3C
+abbrev pub few : List ℕ
+few = replicate 258 0x3C
+
+-- the same with another page
+abbrev pub few-with : List ℕ → List ℕ
+few-with p = p ++ (0x3C ∷ 0x3C ∷ [])
+
+-- a program at 0000FF
+abbrev pub program : Cycle
+program = programming 0x0FF some-slots
+
+-- a sector erase at 0003FF: they all lie in that sector
+abbrev pub erase : Cycle
+erase = erasing-sector 0x3FF
+
+-- the program is completed: 3C and the slots
+abbrev pub programmed : Chip
+programmed = rests 1 false (few-with (row 0x30 0x0C 0x00 0x18))
+
+-- an erase is completed
+abbrev pub erased : Chip
+erased = rests 1 false (replicate 258 0xFF)
+
+-- the new settings are there
+abbrev pub written : Chip
+written = rests 2 true few
+
+-- nothing of a cycle happened
+abbrev pub untouched : Chip
+untouched = rests 1 false few
 
 -- status bytes after so many ticks
 abbrev pub statuses : Chip → List ℕ → List ℕ
-statuses c ticks = map (λ (t : ℕ). statusByte (waitCall c t .chip .device)) ticks
+statuses c ticks = map (λ (t : ℕ). statusByte (waited c t .device)) ticks
 
 -- what waiting leaves
 pub record Waits : Type 0 where
   -- a program of three ticks: none, one, one short, exactly, more, the most; surplus ticks are lost
-  pub none : waitCall (begun 3 program) 0 ≡ leaves (begun 3 program)
-  pub one : waitCall (begun 3 program) 1 ≡ leaves (begun 2 program)
-  pub short : waitCall (begun 3 program) 2 ≡ leaves (on-last program)
-  pub exactly : waitCall (begun 3 program) 3 ≡ leaves programmed
-  pub more : waitCall (begun 3 program) 4 ≡ leaves programmed
-  pub most : waitCall (begun 3 program) 4294967295 ≡ leaves programmed
+  pub none : waited (begun 3 program few) 0 ≡ begun 3 program few
+  pub one : waited (begun 3 program few) 1 ≡ begun 2 program few
+  pub short : waited (begun 3 program few) 2 ≡ on-last program few
+  pub exactly : waited (begun 3 program few) 3 ≡ programmed
+  pub more : waited (begun 3 program few) 4 ≡ programmed
+  pub most : waited (begun 3 program few) 4294967295 ≡ programmed
   -- on the last tick none and one; then nothing more happens
-  pub last-none : waitCall (on-last program) 0 ≡ leaves (on-last program)
-  pub last-one : waitCall (on-last program) 1 ≡ leaves programmed
-  pub again : waitCall programmed 3 ≡ leaves programmed
+  pub last-none : waited (on-last program few) 0 ≡ on-last program few
+  pub last-one : waited (on-last program few) 1 ≡ programmed
+  pub again : waited programmed 3 ≡ programmed
   -- the same of an erase of five ticks, of nine, and of a settings write of two
-  pub sector-short : waitCall (begun 5 erase) 4 ≡ leaves (on-last erase)
-  pub sector-exactly : waitCall (begun 5 erase) 5 ≡ leaves erased
-  pub sector-more : waitCall (begun 5 erase) 6 ≡ leaves erased
-  pub bulk-short : waitCall (begun 9 erasing-all) 8 ≡ leaves (on-last erasing-all)
-  pub bulk-exactly : waitCall (begun 9 erasing-all) 9 ≡ leaves wiped
-  pub bulk-more : waitCall (begun 9 erasing-all) 10 ≡ leaves wiped
-  pub settings-short : waitCall (begun 2 write) 1 ≡ leaves (on-last write)
-  pub settings-exactly : waitCall (begun 2 write) 2 ≡ leaves written
-  pub settings-more : waitCall (begun 2 write) 3 ≡ leaves written
+  pub sector : map (waited (begun 5 erase few)) (0 ∷ 3 ∷ 4 ∷ 5 ∷ 6 ∷ []) ≡ begun 5 erase few ∷ begun 2 erase few ∷ on-last erase few ∷ erased ∷ erased ∷ []
+  pub bulk : map (waited (begun 9 erasing-all few)) (0 ∷ 7 ∷ 8 ∷ 9 ∷ 10 ∷ []) ≡ begun 9 erasing-all few ∷ begun 2 erasing-all few ∷ on-last erasing-all few ∷ erased ∷ erased ∷ []
+  pub settings : map (waited (begun 2 write few)) (0 ∷ 1 ∷ 2 ∷ 3 ∷ []) ≡ begun 2 write few ∷ on-last write few ∷ written ∷ written ∷ []
   -- settings reset again; equal ones
-  pub settings-back : waitCall (chip (busy-of 0 3 true true 2 (writing false 0)) all-3C) 2 ≡ leaves (rests 0 false all-3C)
-  pub settings-same : waitCall (begun 2 (writing false 1)) 2 ≡ leaves (rests 1 false all-3C)
+  pub settings-back : waited (chip (busy-of 0 3 true true 2 (writing false 0)) few) 2 ≡ rests 0 false few
+  pub settings-same : waited (begun 2 (writing false 1) few) 2 ≡ rests 1 false few
   -- more ticks left than the duration, and a program where all is protected: it ends as any other
-  pub long-short : waitCall (begun 1000000 program) 999999 ≡ leaves (on-last program)
-  pub long-exactly : waitCall (begun 1000000 program) 1000000 ≡ leaves programmed
-  pub protected : waitCall (chip (busy-of 0 3 true true 3 program) all-3C) 3 ≡ leaves (rests 3 true (second-page (row 0x30 0x0C 0x00 0x18)))
+  pub long-short : waited (begun 1000000 program few) 999999 ≡ on-last program few
+  pub long-exactly : waited (begun 1000000 program few) 1000000 ≡ programmed
+  pub protected : waited (chip (busy-of 0 3 true true 3 program) few) 3 ≡ rests 3 true (few-with (row 0x30 0x0C 0x00 0x18))
   -- the status byte after 0 ticks and up: the latch falls one tick before the busy bit, the settings are the old ones up to the last tick
-  pub program-shows : statuses (begun 3 program) (0 ∷ 1 ∷ 2 ∷ 3 ∷ 4 ∷ []) ≡ 0x07 ∷ 0x07 ∷ 0x05 ∷ 0x04 ∷ 0x04 ∷ []
-  pub settings-show : statuses (begun 2 write) (0 ∷ 1 ∷ 2 ∷ 3 ∷ []) ≡ 0x07 ∷ 0x05 ∷ 0x88 ∷ 0x88 ∷ []
+  pub program-shows : statuses (begun 3 program few) (0 ∷ 1 ∷ 2 ∷ 3 ∷ 4 ∷ []) ≡ 0x07 ∷ 0x07 ∷ 0x05 ∷ 0x04 ∷ 0x04 ∷ []
+  pub settings-show : statuses (begun 2 write few) (0 ∷ 1 ∷ 2 ∷ 3 ∷ []) ≡ 0x07 ∷ 0x05 ∷ 0x88 ∷ 0x88 ∷ []
   -- in standby and in deep power-down waiting changes nothing, the latch set or not
-  pub standby : waitCall (chip (bench 1 true true) all-3C) 4294967295 ≡ leaves (chip (bench 1 true true) all-3C)
-  pub standby-reset : waitCall (rests 1 true all-3C) 1 ≡ leaves (rests 1 true all-3C)
-  pub deep : waitCall (chip (record-of 0 1 true true Deep) all-3C) 4294967295 ≡ leaves (chip (record-of 0 1 true true Deep) all-3C)
-  pub deep-reset : waitCall (chip (record-of 0 1 true false Deep) all-3C) 1 ≡ leaves (chip (record-of 0 1 true false Deep) all-3C)
+  pub standby : waited (chip (bench 1 true true) few) 4294967295 ≡ chip (bench 1 true true) few
+  pub standby-reset : waited (rests 1 true few) 1 ≡ rests 1 true few
+  pub deep : waited (chip (record-of 0 1 true true Deep) few) 4294967295 ≡ chip (record-of 0 1 true true Deep) few
+  pub deep-reset : waited (chip (record-of 0 1 true false Deep) few) 1 ≡ chip (record-of 0 1 true false Deep) few
 
 -- computed by the checker
 pub waits : Waits
-unfolding mapAt memory-is.programmed memory-is.erased figuresOf sound statusByte latchAt moded settled remembering running ended noSlots noCycle slotsSound cycleSound touched afterCycle finished waited timeNumber waitCall
+unfolding mapAt memory-is.programmed memory-is.erased figuresOf statusByte latchAt moded settled remembering running ended noSlots noCycle touched afterCycle finished waited
 waits = record {
   none = refl;
   one = refl;
@@ -136,15 +118,9 @@ waits = record {
   last-none = refl;
   last-one = refl;
   again = refl;
-  sector-short = refl;
-  sector-exactly = refl;
-  sector-more = refl;
-  bulk-short = refl;
-  bulk-exactly = refl;
-  bulk-more = refl;
-  settings-short = refl;
-  settings-exactly = refl;
-  settings-more = refl;
+  sector = refl;
+  bulk = refl;
+  settings = refl;
   settings-back = refl;
   settings-same = refl;
   long-short = refl;
@@ -158,96 +134,73 @@ waits = record {
   deep-reset = refl;
 }
 
--- ---- power-up
-
 -- what power-up leaves
 pub record PowerUps : Type 0 where
   -- a cycle is completed, at its first tick and on its last
-  pub page : powerUpCall (begun 3 program) ≡ leaves programmed
-  pub page-last : powerUpCall (on-last program) ≡ leaves programmed
-  pub sector : powerUpCall (begun 5 erase) ≡ leaves erased
-  pub sector-last : powerUpCall (on-last erase) ≡ leaves erased
-  pub bulk : powerUpCall (begun 9 erasing-all) ≡ leaves wiped
-  pub bulk-last : powerUpCall (on-last erasing-all) ≡ leaves wiped
-  pub settings : powerUpCall (begun 2 write) ≡ leaves written
-  pub settings-last : powerUpCall (on-last write) ≡ leaves written
+  pub page : finished (begun 3 program few) ∷ finished (on-last program few) ∷ [] ≡ programmed ∷ programmed ∷ []
+  pub sector : finished (begun 5 erase few) ∷ finished (on-last erase few) ∷ [] ≡ erased ∷ erased ∷ []
+  pub bulk : finished (begun 9 erasing-all few) ∷ finished (on-last erasing-all few) ∷ [] ≡ erased ∷ erased ∷ []
+  pub settings : finished (begun 2 write few) ∷ finished (on-last write few) ∷ [] ≡ written ∷ written ∷ []
   -- out of deep power-down and in standby: standby, latch reset, all else kept
-  pub deep : powerUpCall (chip (record-of 0 1 true true Deep) all-3C) ≡ leaves (rests 1 true all-3C)
-  pub deep-reset : powerUpCall (chip (record-of 0 3 false false Deep) all-3C) ≡ leaves (rests 3 false all-3C)
-  pub standby : powerUpCall (chip (bench 1 true true) all-3C) ≡ leaves (rests 1 true all-3C)
-  pub standby-reset : powerUpCall (rests 2 false all-3C) ≡ leaves (rests 2 false all-3C)
+  pub deep : finished (chip (record-of 0 1 true true Deep) few) ≡ rests 1 true few
+  pub deep-reset : finished (chip (record-of 0 3 false false Deep) few) ≡ rests 3 false few
+  pub standby : finished (chip (bench 1 true true) few) ≡ rests 1 true few
+  pub standby-reset : finished (rests 2 false few) ≡ rests 2 false few
 
 -- computed by the checker
 pub power-ups : PowerUps
-unfolding mapAt memory-is.programmed memory-is.erased figuresOf sound latchAt moded settled remembering ended noSlots noCycle slotsSound cycleSound touched afterCycle finished timeNumber powerUpCall
+unfolding mapAt memory-is.programmed memory-is.erased figuresOf moded settled remembering ended noSlots noCycle touched afterCycle finished
 power-ups = record {
   page = refl;
-  page-last = refl;
   sector = refl;
-  sector-last = refl;
   bulk = refl;
-  bulk-last = refl;
   settings = refl;
-  settings-last = refl;
   deep = refl;
   deep-reset = refl;
   standby = refl;
   standby-reset = refl;
 }
 
--- ---- power loss
-
 -- a program cut with the mask 05 00 FF .. FF A1: the old byte and (slot or mask)
 abbrev pub half-programmed : Chip
-half-programmed = rests 1 false (second-page (row 0x34 0x0C 0x3C 0x38))
+half-programmed = rests 1 false (few-with (row 0x34 0x0C 0x3C 0x38))
 
--- a sector erase cut with it: the old byte or the mask
+-- an erase cut with it: the old byte or the mask, in each page
 abbrev pub half-erased : Chip
-half-erased = rests 1 false (second-sector (row 0x3D 0x3C 0xFF 0xBD))
-
--- a bulk erase cut with it
-abbrev pub half-wiped : Chip
-half-wiped = rests 1 false (every-page (row 0x3D 0x3C 0xFF 0xBD))
-
--- nothing of it happened
-abbrev pub untouched : Chip
-untouched = rests 1 false all-3C
+half-erased = rests 1 false (row 0x3D 0x3C 0xFF 0xBD ++ (0x3D ∷ 0x3C ∷ []))
 
 -- what a power loss leaves
 pub record Losses : Type 0 where
   -- a program, whatever the word, at its first tick and on its last
-  pub page : lossCall (begun 3 program) some-mask true ≡ leaves half-programmed
-  pub page-no : lossCall (begun 3 program) some-mask false ≡ leaves half-programmed
-  pub page-last : lossCall (on-last program) some-mask true ≡ leaves half-programmed
+  pub page : lost (begun 3 program few) some-mask true ∷ lost (begun 3 program few) some-mask false ∷ lost (on-last program few) some-mask true ∷ [] ≡ replicate 3 half-programmed
   -- with 00 it is as power-up leaves it, with FF nothing of it happened
-  pub page-00 : lossCall (begun 3 program) (full 0x00) true ≡ leaves programmed
-  pub page-FF : lossCall (begun 3 program) (full 0xFF) true ≡ leaves untouched
-  pub page-24 : lossCall (begun 3 (programming 0x1FF (full 0x0F))) (full 0x24) false ≡ leaves (rests 1 false (second-page (full 0x2C)))
+  pub page-00 : lost (begun 3 program few) (full 0x00) true ≡ programmed
+  pub page-FF : lost (begun 3 program few) (full 0xFF) true ≡ untouched
+  -- slots 0F and a mask 24 over 3C
+  pub page-24 : lost (begun 3 (programming 0x0FF (full 0x0F)) few) (full 0x24) false ≡ rests 1 false (few-with (full 0x2C))
   -- a sector erase: with FF it is as power-up leaves it, with 00 nothing of it happened
-  pub sector : lossCall (begun 5 erase) some-mask true ≡ leaves half-erased
-  pub sector-00 : lossCall (on-last erase) (full 0x00) false ≡ leaves untouched
-  pub sector-FF : lossCall (begun 5 erase) (full 0xFF) false ≡ leaves erased
+  pub sector : lost (begun 5 erase few) some-mask true ∷ lost (on-last erase few) some-mask false ∷ [] ≡ replicate 2 half-erased
+  pub sector-00 : lost (begun 5 erase few) (full 0x00) true ≡ untouched
+  pub sector-FF : lost (begun 5 erase few) (full 0xFF) true ≡ erased
   -- a bulk erase
-  pub bulk : lossCall (begun 9 erasing-all) some-mask true ≡ leaves half-wiped
-  pub bulk-00 : lossCall (begun 9 erasing-all) (full 0x00) true ≡ leaves untouched
-  pub bulk-FF : lossCall (on-last erasing-all) (full 0xFF) false ≡ leaves wiped
+  pub bulk : lost (begun 9 erasing-all few) some-mask true ∷ lost (on-last erasing-all few) some-mask false ∷ [] ≡ replicate 2 half-erased
+  pub bulk-00 : lost (begun 9 erasing-all few) (full 0x00) true ≡ untouched
+  pub bulk-FF : lost (begun 9 erasing-all few) (full 0xFF) true ≡ erased
   -- a settings write: complete on yes, absent on no, whatever the mask
-  pub settings-yes : map (λ (m : ℕ). lossCall (begun 2 write) (full m) true) (0x00 ∷ 0xFF ∷ 0x3C ∷ []) ≡ replicate 3 (leaves written)
-  pub settings-no : map (λ (m : ℕ). lossCall (begun 2 write) (full m) false) (0x00 ∷ 0xFF ∷ 0x3C ∷ []) ≡ replicate 3 (leaves untouched)
-  pub settings-last : lossCall (on-last write) some-mask true ∷ lossCall (on-last write) some-mask false ∷ [] ≡ leaves written ∷ leaves untouched ∷ []
+  pub settings-yes : map (λ (m : ℕ). lost (begun 2 write few) (full m) true) (0x00 ∷ 0xFF ∷ 0x3C ∷ []) ≡ replicate 3 written
+  pub settings-no : map (λ (m : ℕ). lost (begun 2 write few) (full m) false) (0x00 ∷ 0xFF ∷ 0x3C ∷ []) ≡ replicate 3 untouched
+  pub settings-last : lost (on-last write few) some-mask true ∷ lost (on-last write few) some-mask false ∷ [] ≡ written ∷ untouched ∷ []
   -- a second loss changes nothing more
-  pub second : lossCall half-programmed (full 0xFF) true ∷ lossCall half-erased (full 0x00) false ∷ lossCall written (full 0xFF) false ∷ [] ≡ leaves half-programmed ∷ leaves half-erased ∷ leaves written ∷ []
+  pub second : lost half-programmed (full 0xFF) true ∷ lost half-erased (full 0x00) false ∷ lost written (full 0xFF) false ∷ [] ≡ half-programmed ∷ half-erased ∷ written ∷ []
   -- outside a cycle: standby, latch reset, all else kept, whatever the mask and the word
-  pub standby : lossCall (chip (bench 1 true true) all-3C) (full 0xFF) true ∷ lossCall (chip (bench 1 true true) all-3C) (full 0x00) false ∷ [] ≡ replicate 2 (leaves (rests 1 true all-3C))
-  pub deep : lossCall (chip (record-of 0 1 true true Deep) all-3C) (full 0xFF) false ∷ lossCall (chip (record-of 0 1 true false Deep) all-3C) (full 0x00) true ∷ [] ≡ replicate 2 (leaves (rests 1 true all-3C))
+  pub standby : lost (chip (bench 1 true true) few) (full 0xFF) true ∷ lost (chip (bench 1 true true) few) (full 0x00) false ∷ [] ≡ replicate 2 (rests 1 true few)
+  pub deep : lost (chip (record-of 0 1 true true Deep) few) (full 0xFF) false ∷ lost (chip (record-of 0 1 true false Deep) few) (full 0x00) true ∷ [] ≡ replicate 2 (rests 1 true few)
 
 -- computed by the checker
 pub losses : Losses
-unfolding mapAt memory-is.cutPage memory-is.cutSector figuresOf sound latchAt moded settled remembering ended noSlots noCycle slotsSound cycleSound cut afterCycle lost timeNumber lossCall
+unfolding mapAt memory-is.cutPage memory-is.cutSector figuresOf moded settled remembering ended noSlots noCycle cut afterCycle lost
 losses = record {
   page = refl;
-  page-no = refl;
-  page-last = refl;
   page-00 = refl;
   page-FF = refl;
   page-24 = refl;
