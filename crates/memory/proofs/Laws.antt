@@ -36,24 +36,29 @@ unfolding filled
 filled-length latch at [] = refl
 filled-length latch at (b ∷ s) = filled-length (set latch (at % 256) b) (at + 1) s ∙ length-set latch (at % 256) b
 
--- what there is of the page, lent and anded
+-- what there is of the page, lent and changed by what looks at places in a page alone
+pub page-at : (at : ℕ) (g : ℕ → ℕ → ℕ) → ((i j x : ℕ) → i % 256 ≡ j % 256 → g i x ≡ g j x)
+    → (xs : List ℕ) (from n : ℕ) → from ≡ min (at / 256 * 256) (length xs) → n ≡ min 256 (length xs - from)
+    → mapAt (window from (from + n) (λ i x. g (i - from) x)) xs ≡ mapAt (λ i x. cond (eqb (i / 256) (at / 256)) (g i x) x) xs
+page-at at g paged xs from n p q =
+    window-clamp (at / 256 * 256) 256 from n (λ i x. g (i - from) x) xs p q
+    ∙ map-agree _ _ xs
+    (λ i lt.
+    ap (λ (e : ℕ). window (at / 256 * 256) e (λ i x. g (i - from) x) i (getD xs i 0)) (omega arith)
+    ∙ window-block 256 (at / 256) (omega arith) (λ i x. g (i - from) x) i (getD xs i 0)
+    ∙ go i lt (getD xs i 0) (eqb (i / 256) (at / 256)) refl)
+  where
+    go : (i : ℕ) → i < length xs → (x : ℕ) (b : Bool) → eqb (i / 256) (at / 256) ≡ b → cond b (g (i - from) x) x ≡ cond b (g i x) x
+    go i lt x true e =
+        let k = eqb-true (i / 256) (at / 256) e in
+        paged (i - from) i x (omega arith)
+    go i lt x false e = refl
+
+-- programmed
 pub page-is : (at : ℕ) (slots xs : List ℕ) (from n : ℕ) → from ≡ min (at / 256 * 256) (length xs) → n ≡ min 256 (length xs - from)
     → mapAt (window from (from + n) (λ i x. anded slots (i - from) x)) xs ≡ mapAt (programmed at slots) xs
 unfolding programmed
-page-is at slots xs from n p q =
-    window-clamp (at / 256 * 256) 256 from n (λ i x. anded slots (i - from) x) xs p q
-    ∙ map-agree _ _ xs
-    (λ i lt.
-    ap (λ (e : ℕ). window (at / 256 * 256) e (λ i x. anded slots (i - from) x) i (getD xs i 0)) (omega arith)
-    ∙ window-block 256 (at / 256) (omega arith) (λ i x. anded slots (i - from) x) i (getD xs i 0)
-    ∙ go i lt (getD xs i 0) (eqb (i / 256) (at / 256)) refl)
-  where
-    go : (i : ℕ) → i < length xs → (x : ℕ) (b : Bool) → eqb (i / 256) (at / 256) ≡ b → cond b (anded slots (i - from) x) x ≡ cond b (anded slots i x) x
-    go i lt x true e =
-        let k = eqb-true (i / 256) (at / 256) e in
-        let r : (i - from) % 256 ≡ i % 256 = omega arith in
-        ap (λ (j : ℕ). bitAnd x (getD slots j 0)) r
-    go i lt x false e = refl
+page-is at slots xs from n p q = page-at at (anded slots) (λ i j x e. ap (λ (k : ℕ). bitAnd x (getD slots k 0)) e) xs from n p q
 
 -- a sector is a part: whatever is done to its bytes; with no size the whole is one sector
 pub sector-is : (size at : ℕ) (g : ℕ → ℕ → ℕ) (xs : List ℕ) → 0 < size

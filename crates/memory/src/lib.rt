@@ -4,7 +4,7 @@ ghost use Prim.Native.Nat.{_+_, _≤_};
 ghost use lib.ListN.{length, getD};
 ghost use lib.Count.{ones};
 ghost use Rattle.slices.specs.Changed.{mapAt, window, put, sumAt};
-ghost use Rattle.memory.specs.Memory.{blank, filled, anded, programmed, erased, ored, cutPage, cutSector, rolled};
+ghost use Rattle.memory.specs.Memory.{blank, filled, anded, programmed, placed, replaced, erased, ored, cutPage, cutWrite, cutSector, rolled};
 ghost use Rattle.memory.specs.Missing.{unmet, pageOf, missing};
 
 // A latch after the data: byte k in slot (address + k) mod 256, a later byte in place of an earlier.
@@ -49,6 +49,30 @@ pub fn program_page(array: &mut [u8], address: usize, slots: [u8; 256])
     let n = slices::least(256, room);
     let to = from + n;
     and_page(&mut array[from..to], slots);
+}
+
+// Each of the bytes of a page that a write of `count` bytes from an address on names, or of what there is of them, becomes its slot.
+fn put_named(page: &mut [u8], address: usize, count: usize, slots: [u8; 256])
+    requires { ⌜ length (now page) ≤ 256 ⌝ }
+    ensures { λ _. ⌜ now (page .exit) ≡ mapAt (placed address count slots) (now (page .entry)) ⌝ }
+{
+    let shift = 256 - address % 256;
+    let mut i = 0;
+    while i < page.len() {
+        page[i] = slices::when((i + shift) % 256 < count, slots[i], page[i]);
+        i += 1;
+    }
+}
+
+// Writes the page of an address: the bytes that are named become their slots, the others stay.
+pub fn write_page(array: &mut [u8], address: usize, count: usize, slots: [u8; 256])
+    ensures { λ _. ⌜ now (array .exit) ≡ mapAt (replaced address count slots) (now (array .entry)) ⌝ }
+{
+    let from = slices::least(address / 256 * 256, array.len());
+    let room = array.len() - from;
+    let n = slices::least(256, room);
+    let to = from + n;
+    put_named(&mut array[from..to], address, count, slots);
 }
 
 // How many bits of a byte are 1.
@@ -123,6 +147,18 @@ pub fn cut_page(array: &mut [u8], address: usize, slots: [u8; 256], mask: &[u8])
     let start = 0;
     or_part(&mut reached, start, 256, mask);
     program_page(array, address, reached);
+}
+
+// Cuts a write of the page of an address: a write of the page as it is, each byte or the mask.
+pub fn cut_write(array: &mut [u8], address: usize, count: usize, mask: &[u8])
+    ensures { λ _. ⌜ now (array .exit) ≡ mapAt (cutWrite address count (now (mask .entry))) (now (array .entry)) ⌝ }
+{
+    let from = slices::least(address / 256 * 256, array.len());
+    let mut reached = [0; 256];
+    let start = 0;
+    slices::copy(&mut reached, &array[from..]);
+    or_part(&mut reached, start, 256, mask);
+    write_page(array, address, count, reached);
 }
 
 // Cuts an erase of the whole array: each byte or the mask.
