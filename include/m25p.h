@@ -1,6 +1,6 @@
-/* m25p.h - the C calls of a software stand-in for M25P serial flash chips (libm25p.a).
+/* m25p.h - the C calls of a software stand-in for M25P and M25PE serial flash chips (libm25p.a).
  *
- * A chip is two buffers that you own: a packed record of 292 bytes (the settings, the mode and a running
+ * A chip is two buffers that you own: a packed record of 304 bytes (the settings, the mode and a running
  * cycle) and the memory array (its contents). Each call is lent both, changes them in place and returns
  * one 64-bit answer. Nothing is allocated, and between calls nothing is remembered but in these two.
  *
@@ -14,44 +14,54 @@
  *   4   M25P128    16,777,216   64       262,144       20 20 18        none       7
  *   5   M25P10-A,     131,072    4        32,768       none            10         3
  *       older
+ *   6   M25PE40       524,288    8        65,536       20 80 13        none       7
  *
  *   Identification and signature are hexadecimal. A page is 256 bytes. Part 0 exists only here, for
  *   programs that want small buffers. Part 5 is the M25P10-A before process technology X and Y: it does
- *   what part 1 does, but 9F is not an instruction of it and answers 14.
+ *   what part 1 does, but 9F is not an instruction of it and answers 14. Part 6 is of another family: it
+ *   has five instructions more, subsectors of 4,096 bytes, and a lock register for each sector.
  *
- * The packed record, 292 bytes
+ * The packed record, 304 bytes
  *
- *   byte 0       part, 0 to 5
+ *   byte 0       part, 0 to 6
  *   byte 1       BP (block protect), 0 to the part's highest
  *   byte 2       SRWD (status register write disable), 0 or 1
  *   byte 3       write enable latch, 0 or 1
  *   byte 4       mode: 0 standby, 1 busy, 2 deep power-down
  *   bytes 5-7    zero
  *   bytes 8-11   ticks left: 1 to 1,000,000 while busy, otherwise 0
- *   bytes 12-15  duration of a page program, in ticks, 1 to 1,000,000
- *   bytes 16-19  duration of a sector erase, likewise
+ *   bytes 12-15  duration of a page program, page write or page erase, in ticks, 1 to 1,000,000
+ *   bytes 16-19  duration of a sector erase or subsector erase, likewise
  *   bytes 20-23  duration of a bulk erase, likewise
  *   bytes 24-27  duration of a status write, likewise
  *
  *   While busy, the cycle that is running:
  *
- *   byte 28      its kind: 1 page program, 2 sector erase, 3 bulk erase, 4 status write
+ *   byte 28      its kind: 1 page program, 2 sector erase, 3 bulk erase, 4 status write; on part 6 also
+ *                5 page write, 6 page erase, 7 subsector erase
  *   byte 29      kind 4: the new BP, 0 to the part's highest
  *   byte 30      kind 4: the new SRWD, 0 or 1
  *   byte 31      zero
- *   bytes 32-35  kinds 1 and 2: the address as it was sent, modulo the part's size
- *   bytes 36-291 kind 1: the 256 slots of the page, FF where no data went
+ *   bytes 32-35  kinds 1, 2, 5, 6 and 7: the address as it was sent, modulo the part's size
+ *   bytes 36-291 kinds 1 and 5: the 256 slots of the page, FF where no data went
+ *   bytes 292-295 kind 5: how many bytes of the page are named, 1 to 256: those at the places
+ *                (address + k) modulo 256, for each k below this number
  *
- *   What a kind does not use is zero, and all of bytes 28 to 291 unless busy. Numbers of four bytes are
- *   little-endian. A record is sound if every field is as above, a busy record has its latch set exactly
- *   if more than one tick is left, and part 4 is not in deep power-down. Any other 292 bytes are answered
- *   with 6.
+ *   What a kind does not use is zero, and all of bytes 28 to 295 unless busy. Behind it:
+ *
+ *   bytes 296-303 the lock registers of sectors 0 to 7 of part 6, 0 to 3 each: bit 0 the write lock, bit 1
+ *                the lock-down; zero on the other parts
+ *
+ *   Numbers of four bytes are little-endian. A record is sound if every field is as above, a busy record
+ *   has its latch set exactly if more than one tick is left, and part 4 is not in deep power-down. Slots
+ *   that no data went to may hold any byte. Any other 304 bytes are answered with 6.
  *
  * Cycles
  *
- *   An executed PP, SE, BE or WRSR starts a cycle. Until its end the record remembers it, and array, BP
- *   and SRWD stay as they are. The cycle acts on the array that is lent at its end, which is one of three:
- *   its last tick (m25p_wait), m25p_power_up, which completes it, and m25p_loss, which cuts it.
+ *   An executed PP, SE, BE or WRSR, on part 6 also PW, PE or SSE, starts a cycle. Until its end the record
+ *   remembers it, and array, BP and SRWD stay as they are. The cycle acts on the array that is lent at its
+ *   end, which is one of three: its last tick (m25p_wait), m25p_power_up, which completes it, and m25p_loss,
+ *   which cuts it.
  *
  * The answer, 64 bits
  *
@@ -65,7 +75,7 @@
  *   whole word: r == 0 is no test for executed.
  *
  *   Where nothing was driven, and on every number but 0, first and count are 0. The bits missing are 0 on
- *   every number but 0, for every transaction but a page program, and in every answer of m25p_deliver,
+ *   every number but 0, for every transaction but a page program (02), and in every answer of m25p_deliver,
  *   m25p_wait, m25p_power_up and m25p_loss. m25p_pins gives the sum over its transactions. They are counted
  *   as the program starts, on the array that is lent to that call.
  *
@@ -93,7 +103,7 @@
 extern "C" {
 #endif
 
-#define M25P_RECORD_BYTES 292u
+#define M25P_RECORD_BYTES 304u
 #define M25P_MASK_BYTES 256u         /* the mask of a power loss: a byte for each byte of a page */
 #define M25P_MOST_SENT 65536u        /* the most bytes in one transaction */
 #define M25P_MOST_TICKS 1000000u     /* the longest duration */
@@ -114,7 +124,8 @@ enum m25p_part {
     M25P_M25P40 = 2,
     M25P_M25P32 = 3,
     M25P_M25P128 = 4,
-    M25P_M25P10A_OLDER = 5
+    M25P_M25P10A_OLDER = 5,
+    M25P_M25PE40 = 6
 };
 
 #define M25P_BENCH_BYTES 4096u
@@ -123,30 +134,36 @@ enum m25p_part {
 #define M25P_M25P32_BYTES 4194304u
 #define M25P_M25P128_BYTES 16777216u
 #define M25P_M25P10A_OLDER_BYTES 131072u
+#define M25P_M25PE40_BYTES 524288u
+
+/* The bits of a lock register. */
+#define M25P_WRITE_LOCK 0x01u        /* nothing is written, programmed or erased in the sector */
+#define M25P_LOCK_DOWN 0x02u         /* the register is frozen until power-up or a power loss */
 
 /* Answer numbers. On 1 to 8, 21 to 23 and 41 the call was refused and has written nothing anywhere. On 11
- * to 18 the chip ignored the transaction: record and array stay, the latch included, and the response is
+ * to 19 the chip ignored the transaction: record and array stay, the latch included, and the response is
  * all FF. */
 enum m25p_number {
     M25P_EXECUTED = 0,          /* done */
 
-    M25P_UNKNOWN_PART = 1,      /* deliver: part above 5 */
+    M25P_UNKNOWN_PART = 1,      /* deliver: part above 6 */
     M25P_ARRAY_LENGTH = 2,      /* all: array_len is not the part's size */
     M25P_SENT_LENGTH = 3,       /* transact: sent_len above 65,536 */
     M25P_PULSES = 4,            /* transact: further pulses above 7 */
     M25P_RESPONSE_LENGTH = 5,   /* transact: response_len below sent_len */
     M25P_RECORD_UNSOUND = 6,    /* all but deliver: not the packing of a sound record */
     M25P_DURATION = 7,          /* deliver: a duration outside 1 to 1,000,000 */
-    M25P_RECORD_LENGTH = 8,     /* all: record_len is not 292 */
+    M25P_RECORD_LENGTH = 8,     /* all: record_len is not 304 */
 
     M25P_NO_BYTES = 11,         /* nothing was sent */
     M25P_BUSY = 12,             /* busy, and not RDSR */
-    M25P_DEEP = 13,             /* deep power-down, and not RES */
+    M25P_DEEP = 13,             /* deep power-down, and not its release (AB) */
     M25P_UNKNOWN_CODE = 14,     /* the first byte is no instruction of this part */
     M25P_WRONG_FORM = 15,       /* number of bytes, or further pulses, not as the instruction needs */
     M25P_LATCH_NEEDED = 16,     /* the latch is needed and not set */
-    M25P_PROTECTED = 17,        /* PP or SE in a protected sector; BE with BP above 0 */
+    M25P_PROTECTED = 17,        /* PP, SE, PW, PE or SSE in a protected sector; BE with any protected */
     M25P_STATUS_FROZEN = 18,    /* WRSR with SRWD set and W low */
+    M25P_LOCK_FROZEN = 19,      /* WRLR to a register whose lock-down bit is set */
 
     M25P_SAMPLE_BITS = 21,      /* pins: a sample with any of bits 5 to 7 set */
     M25P_PINS_LENGTH = 22,      /* pins: a transaction of more than 65,536 bytes */
@@ -157,14 +174,14 @@ enum m25p_number {
 
 /* Each call gives the first number that applies, in this order:
  *   m25p_deliver              8, 1, 2, 7
- *   m25p_transact             8, 6, 2, 3, 4, 5, then 11, 14, 12, 13, 15, 16, 17, 18
+ *   m25p_transact             8, 6, 2, 3, 4, 5, then 11, 14, 12, 13, 15, 16, 17, 18, 19
  *   m25p_wait, m25p_power_up  8, 6, 2
  *   m25p_loss                 8, 6, 2, 41
  *   m25p_pins                 8, 6, 2, 21, 22, 23
  */
 
-/* A part as it comes from the factory: the array all FF, BP 0, SRWD 0, latch reset, standby, with the
- * given durations in ticks. The record's 292 bytes need not hold anything before. */
+/* A part as it comes from the factory: the array all FF, BP 0, SRWD 0, latch reset, lock registers 0,
+ * standby, with the given durations in ticks. The record's 304 bytes need not hold anything before. */
 uint64_t m25p_deliver(uint8_t *record, size_t record_len, uint32_t part,
                       uint8_t *array, size_t array_len,
                       uint32_t program, uint32_t sector_erase,
@@ -188,10 +205,21 @@ uint64_t m25p_deliver(uint8_t *record, size_t record_len, uint32_t part,
  *   0B    FAST_READ  n >= 5                         the same, from byte 5
  *   02    PP         n >= 5, no pulses, latch       page program, see below
  *   D8    SE         n = 4, no pulses, latch        the addressed sector becomes FF
- *   C7    BE         n = 1, no pulses, latch, BP 0  the array becomes FF
+ *   C7    BE         n = 1, no pulses, latch,       the array becomes FF
+ *                    nothing protected
  *   B9    DP         n = 1, no pulses               deep power-down (unknown on part 4)
  *   AB    RES        n >= 1                         standby; from byte 4: the signature, repeated
  *                                                   (unknown on part 4)
+ *
+ * Part 6 has another AB, and five instructions more, which are unknown on the other parts:
+ *
+ *   AB    RDP        n = 1, no pulses               standby; drives nothing
+ *   0A    PW         n >= 5, no pulses, latch       page write, see below
+ *   DB    PE         n = 4, no pulses, latch        the addressed page becomes FF
+ *   20    SSE        n = 4, no pulses, latch        the addressed subsector becomes FF
+ *   E5    WRLR       n = 5, no pulses, latch        bits 1 and 0 of byte 4 become the addressed sector's
+ *                                                   lock register; latch reset; at once, no cycle
+ *   E8    RDLR       n >= 4                         from byte 4: that register, repeated
  *
  * An address is bytes 1 to 3, high byte first, modulo the part's size. A program takes the bytes from 4
  * on: data byte k goes to slot (address + k) modulo 256, a later byte replaces an earlier one in its
@@ -200,19 +228,29 @@ uint64_t m25p_deliver(uint8_t *record, size_t record_len, uint32_t part,
  * and 0 in the slot's byte of the page before. An FF that was sent counts the zeros under it; a slot
  * where no data went counts nothing; of several bytes for one slot only the last counts.
  *
- * An executed WRSR, PP, SE or BE makes the chip busy for its duration and takes effect as its cycle ends;
- * no transaction changes the array. Status byte: bit 7 SRWD, bits 4 to 2 BP, bit 1 the latch, bit 0 set
- * while busy. The latch falls one tick before the cycle ends, SRWD and BP are the old ones up to the end:
- * in a status write of 8C over 00 the status is 03, in the last tick 01, and 8C afterwards.
+ * A page write fills the slots as a program does, and names as many bytes of the page as there are data
+ * bytes, or all 256: those whose slots data went to. Each of them becomes its slot, be it by a 0 or by a
+ * 1, and the rest of the page stays.
+ *
+ * An executed WRSR, PP, SE or BE makes the chip busy for its duration and takes effect as its cycle ends,
+ * and so do PW and PE, for that of PP, and SSE, for that of SE; no transaction changes the array. Status
+ * byte: bit 7 SRWD, bits 4 to 2 BP, bit 1 the latch, bit 0 set while busy. The latch falls one tick before
+ * the cycle ends, SRWD and BP are the old ones up to the end: in a status write of 8C over 00 the status is
+ * 03, in the last tick 01, and 8C afterwards.
  *
  * BP protects this many of the highest sectors: 0 for BP 0, otherwise 2 to the power BP - 1, or all of
- * them where the part has fewer.
+ * them where the part has fewer. On part 6 a sector whose lock register has M25P_WRITE_LOCK set is
+ * protected as well. A register with M25P_LOCK_DOWN set is frozen: WRLR answers 19, for the same value
+ * too. Nothing else stops WRLR, neither BP nor W. m25p_power_up and m25p_loss set all registers to 0.
  *
- * Hardware protection: starting from a standby record with SRWD set, as long as w is 0 in every
- * transaction (in m25p_pins, as long as W is low in every sample in which Select rises), no call but
+ * Hardware protection of parts 0 to 5: starting from a standby record with SRWD set, as long as w is 0 in
+ * every transaction (in m25p_pins, as long as W is low in every sample in which Select rises), no call but
  * m25p_deliver changes BP, SRWD or a byte of a protected sector, power losses included. One WRSR with W
  * high may undo it, and so may one with W low where SRWD is not set, or one that was running at the start.
- * Sectors that BP leaves free are programmed and erased as ever. */
+ * Sectors that BP leaves free are programmed and erased as ever.
+ *
+ * What a lock is worth: starting from a standby record of part 6 with a lock register of 3, no transaction
+ * and no wait changes that register or a byte of its sector, whatever w is. */
 uint64_t m25p_transact(uint8_t *record, size_t record_len,
                        uint8_t *array, size_t array_len,
                        const uint8_t *sent, size_t sent_len,
@@ -226,22 +264,26 @@ uint64_t m25p_transact(uint8_t *record, size_t record_len,
 uint64_t m25p_wait(uint8_t *record, size_t record_len,
                    uint8_t *array, size_t array_len, uint32_t ticks);
 
-/* Power off and on: standby, latch reset. A running cycle is completed, on the array that is lent here.
- * Nothing else changes. */
+/* Power off and on: standby, latch reset, lock registers 0. A running cycle is completed, on the array that
+ * is lent here. Nothing else changes. */
 uint64_t m25p_power_up(uint8_t *record, size_t record_len,
                        uint8_t *array, size_t array_len);
 
-/* Power is lost and comes back: standby, latch reset. A running cycle is cut, at whichever tick:
+/* Power is lost and comes back: standby, latch reset, lock registers 0. A running cycle is cut, at
+ * whichever tick:
  *
  *   page program  each byte of the page becomes itself AND (its slot OR its mask byte): where the mask has
  *                 a 1, the bit was not reached; with a mask of 00 the program is complete
- *   erases        each byte of the sector, or of the array, becomes itself OR its mask byte: where the mask
- *                 has a 0, the bit was not reached; with a mask of FF the erase is complete
+ *   erases        each byte of the page, subsector or sector, or of the array, becomes itself OR its mask
+ *                 byte: where the mask has a 0, the bit was not reached; with a mask of FF the erase is
+ *                 complete
+ *   page write    each named byte becomes itself OR its mask byte, as its page is erased before it is
+ *                 written; the rest of the page stays
  *   status write  complete if yes is not 0, absent if it is 0
  *
  * A byte's mask byte is mask[i % 256] for byte i of the array. The array is the one that is lent here. yes
- * does not matter for programs and erases, nor the mask for a status write; outside a cycle neither does,
- * and all else is kept. mask_len is looked at even then. */
+ * does not matter for programs, writes and erases, nor the mask for a status write; outside a cycle neither
+ * does, and all else is kept. mask_len is looked at even then. */
 uint64_t m25p_loss(uint8_t *record, size_t record_len,
                    uint8_t *array, size_t array_len,
                    const uint8_t *mask, size_t mask_len, uint32_t yes);
@@ -273,7 +315,7 @@ uint64_t m25p_loss(uint8_t *record, size_t record_len,
  *
  * A transaction that is unfinished at the end of the run has no effect either. No ticks pass within a
  * run: a chip that became busy stays so, and no run changes the array. A transaction that the chip ignores
- * (11 to 18) does not refuse the run, and its number is not told. An answer number of 0 says that the run
+ * (11 to 19) does not refuse the run, and its number is not told. An answer number of 0 says that the run
  * was carried out; first and count are always 0. The bits missing are the sum over the transactions carried
  * out: at most 2,048, as a chip that was programmed is busy for the rest of the run. A refused run has
  * none.

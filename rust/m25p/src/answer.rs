@@ -4,7 +4,7 @@ use std::fmt;
 
 /// What a call answers, with the number that it has in the C calls.
 ///
-/// From 1 to 8 and from 21 on, the call was refused and has changed nothing. From 11 to 18 the chip ignored
+/// From 1 to 8 and from 21 on, the call was refused and has changed nothing. From 11 to 19 the chip ignored
 /// the transaction: record and array stay, and what it drives reads FF.
 #[derive(Clone, Copy, Debug, PartialEq, Eq, Hash)]
 #[repr(u8)]
@@ -43,6 +43,8 @@ pub enum Answer {
     Protected = 17,
     /// The status register is frozen: SRWD is set and W is low.
     StatusFrozen = 18,
+    /// The lock register is frozen: its lock-down bit is set.
+    LockFrozen = 19,
     /// Raw pins: a sample with one of the bits 5 to 7 set.
     SampleBits = 21,
     /// Raw pins: a transaction of more than 65,536 bytes.
@@ -55,7 +57,7 @@ pub enum Answer {
 
 impl Answer {
     /// All answers, by number.
-    pub const ALL: [Answer; 21] = [
+    pub const ALL: [Answer; 22] = [
         Answer::Executed,
         Answer::UnknownPart,
         Answer::ArrayLength,
@@ -73,6 +75,7 @@ impl Answer {
         Answer::LatchNeeded,
         Answer::Protected,
         Answer::StatusFrozen,
+        Answer::LockFrozen,
         Answer::SampleBits,
         Answer::PinsLength,
         Answer::OutputLength,
@@ -89,9 +92,9 @@ impl Answer {
         Answer::ALL.into_iter().find(|answer| answer.number() == number)
     }
 
-    /// Whether the chip ignored the transaction: 11 to 18.
+    /// Whether the chip ignored the transaction: 11 to 19.
     pub const fn ignored(self) -> bool {
-        matches!(self.number(), 11..=18)
+        matches!(self.number(), 11..=19)
     }
 
     /// An error unless the call was carried out.
@@ -121,6 +124,7 @@ impl Answer {
             Answer::LatchNeeded => "the write enable latch is needed and not set",
             Answer::Protected => "the sector, or for a bulk erase anything, is protected",
             Answer::StatusFrozen => "the status register is frozen: SRWD is set and W is low",
+            Answer::LockFrozen => "the lock register is frozen: its lock-down bit is set",
             Answer::SampleBits => "a sample has one of the bits 5 to 7 set",
             Answer::PinsLength => "a transaction has more than 65,536 bytes",
             Answer::OutputLength => "the output is shorter than the samples",

@@ -32,14 +32,14 @@ pub fn wait(record: &mut [u8], array: &mut [u8], ticks: u32) -> Reply {
     Reply::new(library::wait(record, array, ticks))
 }
 
-/// Power off and on; a running cycle is completed. Answers 8, 6, 2.
+/// Power off and on; a running cycle is completed, and lock registers are reset. Answers 8, 6, 2.
 pub fn power_up(record: &mut [u8], array: &mut [u8]) -> Reply {
     Reply::new(library::power_up(record, array))
 }
 
-/// Power is lost and comes back; a running cycle is cut. Of a program or an erase the mask says what was not
-/// reached, one byte of it for each byte of a page; a status write is complete unless `yes` is 0. Answers 8,
-/// 6, 2, 41.
+/// Power is lost and comes back; a running cycle is cut, and lock registers are reset. Of a program, a write or an
+/// erase the mask says what was not reached, one byte of it for each byte of a page; a status write is complete unless
+/// `yes` is 0. Answers 8, 6, 2, 41.
 pub fn loss(record: &mut [u8], array: &mut [u8], mask: &[u8], yes: u32) -> Reply {
     Reply::new(library::loss(record, array, mask, yes))
 }

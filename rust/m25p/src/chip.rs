@@ -89,22 +89,24 @@ impl Chip {
         executed(calls::wait(&mut self.record, &mut self.array, ticks));
     }
 
-    /// Power off and on: standby, with the latch reset. A running cycle is completed; nothing else
-    /// changes.
+    /// Power off and on: standby, with the latch and every lock register reset. A running cycle is completed; nothing
+    /// else changes.
     pub fn power_up(&mut self) {
         executed(calls::power_up(&mut self.record, &mut self.array));
     }
 
-    /// Power is lost and comes back: standby, with the latch reset. A running cycle is cut, at whichever tick:
+    /// Power is lost and comes back: standby, with the latch and every lock register reset. A running cycle is cut, at
+    /// whichever tick:
     ///
     /// - a program leaves in each byte of the page what was there and (its slot or the mask): a bit that is 1
     ///   in the mask was not reached;
-    /// - an erase leaves in each byte of its sector, or of the array, what was there or the mask: a bit that is
-    ///   0 in the mask was not reached;
+    /// - an erase leaves in each byte of its page, subsector or sector, or of the array, what was there or the mask: a
+    ///   bit that is 0 in the mask was not reached;
+    /// - a page write leaves the same in each byte that it names, and the rest of the page as it was;
     /// - a status write is complete on yes and absent on no.
     ///
     /// The mask's byte is the one at the byte's place in its page. The mask does not matter for a status write,
-    /// nor yes for a program or an erase; outside a cycle neither does.
+    /// nor yes for a program, a write or an erase; outside a cycle neither does.
     pub fn loss(&mut self, mask: &[u8; MASK_BYTES], yes: bool) {
         executed(calls::loss(&mut self.record, &mut self.array, mask, u32::from(yes)));
     }

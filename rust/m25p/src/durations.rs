@@ -6,9 +6,9 @@
 /// a status write.
 #[derive(Clone, Copy, Debug, PartialEq, Eq)]
 pub struct Durations {
-    /// Of a page program.
+    /// Of a page program, and of a page write and a page erase.
     pub program: u32,
-    /// Of a sector erase.
+    /// Of a sector erase, and of a subsector erase.
     pub sector_erase: u32,
     /// Of a bulk erase.
     pub bulk_erase: u32,

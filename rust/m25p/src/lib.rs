@@ -1,4 +1,4 @@
-//! A proved software stand-in for M25P serial flash: the calls of `libm25p.a` as safe Rust.
+//! A proved software stand-in for M25P and M25PE serial flash: the calls of `libm25p.a` as safe Rust.
 //!
 //! A [`Chip`] is one of the [parts](Part) with its contents. It takes SPI transactions, each one period of
 //! Chip Select low, or the raw samples of its pins, and does what the data sheet says and nothing else. Time
@@ -78,7 +78,7 @@ pub use durations::Durations;
 pub use part::{Part, UnknownPart};
 
 /// The length of a packed record.
-pub const RECORD_BYTES: usize = 292;
+pub const RECORD_BYTES: usize = 304;
 
 /// The length of a power loss's mask: a byte for each byte of a page.
 pub const MASK_BYTES: usize = 256;

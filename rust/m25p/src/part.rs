@@ -18,6 +18,9 @@ pub enum Part {
     M25p128,
     /// The M25P10-A before process technology X and Y, 131,072 bytes: it has no Read Identification (9F).
     M25p10aOlder,
+    /// M25PE40, 524,288 bytes: of another family, with page write, page erase, subsector erase, and a lock register for
+    /// each sector.
+    M25pe40,
 }
 
 /// The figures of a part.
@@ -34,8 +37,15 @@ const fn row(number: u32, name: &'static str, bytes: usize, highest_bp: u8) -> R
 
 impl Part {
     /// All parts, by number.
-    pub const ALL: [Part; 6] =
-        [Part::Bench, Part::M25p10a, Part::M25p40, Part::M25p32, Part::M25p128, Part::M25p10aOlder];
+    pub const ALL: [Part; 7] = [
+        Part::Bench,
+        Part::M25p10a,
+        Part::M25p40,
+        Part::M25p32,
+        Part::M25p128,
+        Part::M25p10aOlder,
+        Part::M25pe40,
+    ];
 
     const fn row(self) -> Row {
         match self {
@@ -45,6 +55,7 @@ impl Part {
             Part::M25p32 => row(3, "M25P32", 4_194_304, 7),
             Part::M25p128 => row(4, "M25P128", 16_777_216, 7),
             Part::M25p10aOlder => row(5, "M25P10-A-older", 131_072, 3),
+            Part::M25pe40 => row(6, "M25PE40", 524_288, 7),
         }
     }
 

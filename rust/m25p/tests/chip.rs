@@ -1,5 +1,5 @@
-//! The chip that owns its buffers: refused deliveries, a short life of an M25P40 on libm25p.a, missing erases, power
-//! losses, and what parts and answers are called.
+//! The chip that owns its buffers: refused deliveries, a short life of an M25P40 on libm25p.a and of an M25PE40, missing
+//! erases, power losses, and what parts and answers are called.
 
 use std::error::Error;
 
@@ -17,7 +17,7 @@ fn refused_deliveries() {
     let none = Durations { program: 0, ..Durations::default() };
     assert_eq!(Chip::deliver(Part::M25p128, none).err(), Some(Answer::Duration));
     let (mut record, mut array) = ([0; RECORD_BYTES], []);
-    let reply = calls::deliver(&mut record, 6, &mut array, Durations::default());
+    let reply = calls::deliver(&mut record, 7, &mut array, Durations::default());
     assert_eq!((reply.answer(), record), (Answer::UnknownPart, [0; RECORD_BYTES]));
 }
 
@@ -47,6 +47,25 @@ fn program_erase_and_power() {
     assert_eq!(chip.part(), Part::M25p40);
 }
 
+/// A page write both ways, a sector that is locked, and the power that opens it.
+#[test]
+fn page_write_and_locks() {
+    let mut chip = in_cycle(Part::M25pe40, &[0x0A, 0x07, 0x00, 0xFF, 0xA5, 0xFF]);
+    chip.wait(Durations::default().program);
+    assert_eq!(chip.array()[0x7_00FE..=0x7_0100], [0x5A, 0xA5, 0x5A]);
+    assert_eq!(chip.array()[0x7_0000..0x7_0002], [0xFF, 0x5A]);
+    executed(&mut chip, &[0x06]);
+    executed(&mut chip, &[0xE5, 0x07, 0x00, 0x00, 0x03]);
+    assert_eq!(executed(&mut chip, &[0xE8, 0x07, 0xFF, 0xFF, 0, 0])[4..], [0x03, 0x03]);
+    executed(&mut chip, &[0x06]);
+    assert_eq!(chip.transact(&[0xE5, 0x07, 0, 0, 0], 0, true).answer, Answer::LockFrozen);
+    assert_eq!(chip.transact(&[0xDB, 0x07, 0, 0], 0, true).answer, Answer::Protected);
+    chip.power_up();
+    assert_eq!(chip.record()[296..], [0; 8]);
+    executed(&mut chip, &[0x06]);
+    executed(&mut chip, &[0xDB, 0x07, 0, 0]);
+}
+
 /// A chip of this part, all 5A, in the cycle that the bytes start.
 fn in_cycle(part: Part, sent: &[u8]) -> Chip {
     let mut chip = Chip::deliver(part, Durations::default()).unwrap();
@@ -70,11 +89,12 @@ fn status_write() {
 #[test]
 fn packed_cycles() {
     let packed = |sent: &[u8]| in_cycle(Part::Bench, sent).record()[28..].to_vec();
-    let mut program = vec![0xFF; 264];
+    let mut program = vec![0xFF; 276];
     program[..8].copy_from_slice(&[1, 0, 0, 0, 0xFF, 0x0E, 0, 0]);
     (program[8 + 255], program[8]) = (0x12, 0x34);
+    program[264..].fill(0x00);
     assert_eq!(packed(&[0x02, 0xF0, 0xFE, 0xFF, 0x12, 0x34]), program);
-    let rest = |head: &[u8]| [head, &vec![0; 264 - head.len()]].concat();
+    let rest = |head: &[u8]| [head, &vec![0; 276 - head.len()]].concat();
     assert_eq!(packed(&[0xD8, 0xF0, 0xFE, 0xFF]), rest(&[2, 0, 0, 0, 0xFF, 0x0E]));
     assert_eq!(packed(&[0xC7]), rest(&[3]));
     assert_eq!(packed(&[0x01, 0xFF]), rest(&[4, 3, 1]));
@@ -91,13 +111,26 @@ fn running_cycles() {
         (&[0xC7], Cycle::BulkErase, 9),
         (&[0x01, 0x84], Cycle::StatusWrite { bp: 1, srwd: true }, 2),
     ] {
-        let mut chip = in_cycle(Part::Bench, sent);
-        for _ in 0..ticks {
-            assert_eq!(chip.cycle(), Some(cycle));
-            chip.wait(1);
-        }
-        assert_eq!(chip.cycle(), None);
+        running(Part::Bench, sent, cycle, ticks);
     }
+    let address = 0x7_FEFF;
+    for (sent, cycle, ticks) in [
+        (&[0x0A, 0xFF, 0xFE, 0xFF, 1, 2][..], Cycle::PageWrite { address, named: 2 }, 3),
+        (&[0xDB, 0xFF, 0xFE, 0xFF], Cycle::PageErase { address }, 3),
+        (&[0x20, 0xFF, 0xFE, 0xFF], Cycle::SubsectorErase { address }, 5),
+    ] {
+        running(Part::M25pe40, sent, cycle, ticks);
+    }
+}
+
+/// The bytes start this cycle, of so many ticks.
+fn running(part: Part, sent: &[u8], cycle: Cycle, ticks: u32) {
+    let mut chip = in_cycle(part, sent);
+    for _ in 0..ticks {
+        assert_eq!(chip.cycle(), Some(cycle));
+        chip.wait(1);
+    }
+    assert_eq!(chip.cycle(), None);
 }
 
 /// Power lost in each kind of cycle: what the array holds then, in the mask's first place and behind it.
@@ -121,6 +154,9 @@ fn power_losses() {
     let places = [0x8000, 0x8001, 0xFF01, 0x1, 0x1_0001];
     assert_eq!(left(&[0xD8, 0x00, 0x80, 0x00], &places), erased);
     assert_eq!(left(&[0xC7], &[0x0, 0x1, 0x1_FF01]), [0x5A, 0x5F, 0x5F]);
+    let mut chip = in_cycle(Part::M25pe40, &[0x0A, 0x00, 0x00, 0x00, 0x00, 0x00]);
+    chip.loss(&[0x0F; MASK_BYTES], false);
+    assert_eq!(chip.array()[..3], [0x5F, 0x5F, 0x5A], "the bytes that are named");
 }
 
 #[test]
@@ -229,9 +265,9 @@ fn parts_and_answers() {
         }
         assert!(Chip::deliver(part, Durations::default()).is_ok());
     }
-    assert_eq!(Part::numbered(6), None);
+    assert_eq!(Part::numbered(7), None);
     let refusal = "M25P64".parse::<Part>().unwrap_err();
-    let sentence = "There is no part M25P64; the parts are 0 bench, 1 M25P10-A, 2 M25P40, 3 M25P32, 4 M25P128, 5 M25P10-A-older.";
+    let sentence = "There is no part M25P64; the parts are 0 bench, 1 M25P10-A, 2 M25P40, 3 M25P32, 4 M25P128, 5 M25P10-A-older, 6 M25PE40.";
     assert_eq!(refusal.to_string(), sentence);
     let mut before = None;
     for answer in Answer::ALL {
@@ -241,5 +277,6 @@ fn parts_and_answers() {
     }
     let error: Box<dyn Error> = Answer::Protected.into();
     assert!(error.to_string().contains("protected"));
-    assert!(Answer::Protected.ignored() && !Answer::Duration.ignored());
+    assert!(Answer::Protected.ignored() && Answer::LockFrozen.ignored());
+    assert!(!Answer::Duration.ignored() && !Answer::SampleBits.ignored());
 }

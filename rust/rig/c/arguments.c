@@ -88,7 +88,7 @@ static int second_page(uint8_t byte)
 /* Whether the record is in standby with the latch reset, and remembers no cycle. */
 static int rested(void)
 {
-    for (int i = 28; i < 292; i++)
+    for (int i = 28; i < 304; i++)
         if (room[0][i] != 0)
             return 0;
     return room[0][3] == 0 && room[0][4] == 0 && room[0][8] == 0;
@@ -96,7 +96,7 @@ static int rested(void)
 
 static void prepare_deliver(struct call *call)
 {
-    set(call, 7, (const uint64_t[]){292, 1, M25P_M25P10A_BYTES, 101, 102, 103, 104});
+    set(call, 7, (const uint64_t[]){304, 1, M25P_M25P10A_BYTES, 101, 102, 103, 104});
 }
 
 /* Part, durations and array are where the header has them. */
@@ -113,7 +113,7 @@ static int right_deliver(const struct call *call)
 /* A status write that W low would freeze and a further pulse would spoil. */
 static void prepare_transact(struct call *call)
 {
-    set(call, 6, (const uint64_t[]){292, M25P_M25P10A_BYTES, 2, 0, 1, 5});
+    set(call, 6, (const uint64_t[]){304, M25P_M25P10A_BYTES, 2, 0, 1, 5});
     record(room[0], 0);
     memcpy(room[2], (const uint8_t[]){0x01, 0x04}, 2);
 }
@@ -128,7 +128,7 @@ static int right_transact(const struct call *call)
 
 static void prepare_wait(struct call *call)
 {
-    set(call, 3, (const uint64_t[]){292, M25P_M25P10A_BYTES, 20});
+    set(call, 3, (const uint64_t[]){304, M25P_M25P10A_BYTES, 20});
     record(room[0], 1);
 }
 
@@ -139,7 +139,7 @@ static int right_wait(const struct call *call)
 
 static void prepare_power_up(struct call *call)
 {
-    set(call, 2, (const uint64_t[]){292, M25P_M25P10A_BYTES});
+    set(call, 2, (const uint64_t[]){304, M25P_M25P10A_BYTES});
     record(room[0], 1);
 }
 
@@ -151,7 +151,7 @@ static int right_power_up(const struct call *call)
 /* The mask is all 02. */
 static void prepare_loss(struct call *call)
 {
-    set(call, 4, (const uint64_t[]){292, M25P_M25P10A_BYTES, 256, 1});
+    set(call, 4, (const uint64_t[]){304, M25P_M25P10A_BYTES, 256, 1});
     record(room[0], 1);
     memset(room[2], 0x02, 256);
 }
@@ -183,7 +183,7 @@ static void prepare_pins(struct call *call)
     const uint8_t read[5] = {0x03}, program[5] = {0x02, 0, 0, 0, 0xFF};
     size_t at = clocked(clocked(clocked(0, read), program), read);
     record(room[0], 0);
-    set(call, 4, (const uint64_t[]){292, M25P_M25P10A_BYTES, at, at + 3});
+    set(call, 4, (const uint64_t[]){304, M25P_M25P10A_BYTES, at, at + 3});
 }
 
 /* The byte is 5A, its bits show from the fall behind the 32nd rise on. FF over it misses four bits, and it

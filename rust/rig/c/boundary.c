@@ -1,7 +1,7 @@
 /* boundary.c - the C calls at their limits: empty slices with and without an address, lengths beyond 32
- * bits, full 32-bit numbers, rewrites without an erase, power losses, every part. Prints one line for each
- * call: its name, answer number, first, count and bits missing; of each part one line: the answers of
- * delivery, RDID and RES, and what the two drive. */
+ * bits, full 32-bit numbers, rewrites without an erase, power losses, lock registers, every part. Prints
+ * one line for each call: its name, answer number, first, count and bits missing; of each part one line: the
+ * answers of delivery, RDID and RES, and what the two drive. */
 #define _GNU_SOURCE
 #include <stdio.h>
 #include <string.h>
@@ -217,6 +217,37 @@ static void losses(void)
     show("once more", lose(mask, 256, 0));
 }
 
+/* A transaction on the M25PE40, whose array is the beginning of the huge slice. */
+static uint64_t on_m25pe40(const uint8_t *bytes, size_t n)
+{
+    return m25p_transact(record, sizeof record, huge, M25P_M25PE40_BYTES, bytes, n, 0, 1, response, n);
+}
+
+/* A sector of the M25PE40 is locked and frozen until power-up; then a page write around the end of its page. */
+static void locks(void)
+{
+    const uint8_t enable[1] = {0x06}, lock[5] = {0xE5, 7, 0, 0, M25P_LOCK_DOWN | M25P_WRITE_LOCK};
+    const uint8_t look[6] = {0xE8, 7, 0xFF, 0xFF}, write[6] = {0x0A, 7, 0, 0xFF, 0x12, 0x34};
+    printf("locks\n");
+    show("deliver", m25p_deliver(record, sizeof record, M25P_M25PE40, huge, M25P_M25PE40_BYTES, 3, 5, 9, 2));
+    show("lock without the latch", on_m25pe40(lock, 5));
+    on_m25pe40(enable, 1);
+    show("lock", on_m25pe40(lock, 5));
+    show("look", on_m25pe40(look, 6));
+    printf("%02X %02X %02X\n", response[3], response[4], response[5]);
+    on_m25pe40(enable, 1);
+    show("page write, locked", on_m25pe40(write, 6));
+    show("lock, frozen", on_m25pe40(lock, 5));
+    printf("%u\n", record[303]);
+    show("power-up", m25p_power_up(record, sizeof record, huge, M25P_M25PE40_BYTES));
+    printf("%u\n", record[303]);
+    on_m25pe40(enable, 1);
+    show("page write", on_m25pe40(write, 6));
+    printf("%u %u\n", record[28], record[292]);
+    show("wait", m25p_wait(record, sizeof record, huge, M25P_M25PE40_BYTES, 3));
+    printf("%02X %02X %02X\n", huge[0x700FF], huge[0x70000], huge[0x70001]);
+}
+
 /* Every part by its name and size in the header: what delivery, RDID and RES answer, and what the two drive. */
 static void parts(void)
 {
@@ -231,6 +262,7 @@ static void parts(void)
         {"M25P32", M25P_M25P32, M25P_M25P32_BYTES},
         {"M25P128", M25P_M25P128, M25P_M25P128_BYTES},
         {"older M25P10-A", M25P_M25P10A_OLDER, M25P_M25P10A_OLDER_BYTES},
+        {"M25PE40", M25P_M25PE40, M25P_M25PE40_BYTES},
     };
     const uint8_t identify[4] = {0x9F}, release[5] = {0xAB};
     uint8_t named[4], signed_by[5];
@@ -243,7 +275,7 @@ static void parts(void)
         printf("%s: %u %u %u, %02X %02X %02X, %02X\n", all[i].name, m25p_answer(delivered), m25p_answer(rdid),
                m25p_answer(res), named[1], named[2], named[3], signed_by[4]);
     }
-    show("part 6", m25p_deliver(record, sizeof record, 6, huge, M25P_M25P10A_OLDER_BYTES, 3, 5, 9, 2));
+    show("part 7", m25p_deliver(record, sizeof record, 7, huge, M25P_M25PE40_BYTES, 3, 5, 9, 2));
 }
 
 int main(void)
@@ -261,6 +293,7 @@ int main(void)
     pins();
     rewrites();
     losses();
+    locks();
     parts();
     sent[0] = 0x05;
     empty("NULL", NULL);

@@ -1,6 +1,7 @@
 //! The comparison: one call is made to libm25p.a and to the model, and every lent byte is compared.
 
 mod ends;
+mod locks;
 mod tally;
 
 pub use tally::Tally;
@@ -60,6 +61,11 @@ pub struct Seen {
 impl Seen {
     fn only(word: u64) -> Seen {
         Seen { word, found: vec![], chip: vec![] }
+    }
+
+    /// The 64 bits.
+    pub fn word(&self) -> u64 {
+        self.word
     }
 
     pub fn answer(&self) -> u8 {
@@ -188,7 +194,10 @@ impl Pair {
         // The model goes first, so that the tally sees the array from before the call.
         let seen = self.modelled.model_call(step, self.rules);
         tally.count(step, &seen, &self.modelled.filled, &self.real.array);
-        tally.ends.count(step, &seen, lent.as_ref());
+        if let Some(lent) = lent.filter(|_| step.record_len == RECORD_BYTES) {
+            tally.ends.count(step, &seen, &lent);
+            tally.locks.count(step, &seen, &lent);
+        }
         let word = self.real.call(step);
         let touched = self.touched(step, &seen, lent.and_then(|record| record.cycle()));
         self.compare(word, &seen, touched, tally.calls)
@@ -237,11 +246,8 @@ impl Pair {
             (Call::Deliver { .. }, _) if seen.answer() == 0 => 0..part.bytes,
             (Call::Transact { sent, .. }, _) if sent.len() >= 4 => sector(address(part, sent)),
             (Call::Deliver { .. } | Call::Transact { .. }, _) => 0..0,
-            (_, Some(Cycle::Program { address, .. } | Cycle::SectorErase { address })) => {
-                sector(address)
-            }
             (_, Some(Cycle::BulkErase)) if seen.answer() == 0 => 0..part.bytes,
-            _ => 0..0,
+            (_, cycle) => cycle.and_then(|cycle| cycle.address()).map_or(0..0, sector),
         }
     }
 

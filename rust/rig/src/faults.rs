@@ -3,21 +3,28 @@
 
 mod chip;
 mod cycles;
+mod locks;
 mod losses;
 mod missing;
 mod pins;
 mod soundness;
 mod walk;
+mod writes;
 
 pub use pins::{LONG, SHORT};
 
-use crate::model::{Model, Record, BE, SE};
+use crate::model::{Cycle, Model, Record};
+use crate::model::{BE, DP, PE, PP, PW, RDLR, RES, SE, SSE, WRDI, WREN, WRLR};
 use chip::*;
 use cycles::*;
+use locks::{CycleUnlocks, FrozenByW, NoLatchFor, PowerUpKeepsLocks};
+use locks::{Drives, Frozen, Knows, Needs, NotStopped, ReleaseSigns, Stops, Unlocks, Writes};
 use losses::{CutByte, CutReachesAll, LastTickIsSafe};
 use losses::{MaskBeforeArray, UnusedMaskUnchecked, YesCutToAByte};
 use missing::*;
 use soundness::{NotTaken, PutRight};
+use writes::{CountsPageWrites, Lasts, Names, Reaches, Written};
+use writes::{PowerUpErasesThePageWrite, PowerUpForgetsThePageWrite};
 
 /// Pairs each fault with its name.
 macro_rules! named {
@@ -47,10 +54,10 @@ pub const CHIP: &[(&str, &dyn Model)] = named![
     BitFourKept,
     DeepResetsLatch,
     // protection is looked at before the latch
-    LooksInOrder([11, 14, 12, 13, 15, 17, 16, 18]),
+    LooksInOrder([11, 14, 12, 13, 15, 17, 16, 18, 19]),
     // busy is looked at before unknown codes
-    LooksInOrder([11, 12, 14, 13, 15, 16, 17, 18]),
-    DurationBeforeLength,
+    LooksInOrder([11, 12, 14, 13, 15, 16, 17, 18, 19]),
+    Delivery(duration_before_length),
     OlderIdentifies,
     NeitherIdentifies,
     CountsWhereNoDataWent,
@@ -67,11 +74,11 @@ pub const CHIP: &[(&str, &dyn Model)] = named![
     CountsIgnored(15),
     CountsIgnored(16),
     CountsIgnored(17),
-    ArrayAtTheStart,
+    Afterwards(array_at_the_start),
     SettingsAtTheStart,
     EqualSettingsAtOnce,
-    SlotsNotPacked,
-    SettingsAlwaysRemembered,
+    Afterwards(slots_not_packed),
+    Afterwards(settings_remembered),
     Remembers(start_of_page),
     Remembers(start_of_sector),
     Remembers(address_as_sent),
@@ -101,7 +108,7 @@ pub const CHIP: &[(&str, &dyn Model)] = named![
     PutRight(soundness::address_beyond),
     PutRight(soundness::new_bp_above),
     PutRight(soundness::new_srwd_above_one),
-    PutRight(soundness::kind_above_four),
+    PutRight(soundness::kind_above_seven),
     PutRight(soundness::busy_of_no_kind),
     NotTaken(soundness::longer_than_its_duration),
     NotTaken(soundness::in_a_protected_place),
@@ -127,6 +134,112 @@ pub const CHIP: &[(&str, &dyn Model)] = named![
     UnusedMaskUnchecked,
     MaskBeforeArray,
 ];
+
+/// Those of what only the M25PE40 has.
+pub const M25PE40: &[(&str, &dyn Model)] = named![
+    Knows { part: 2, code: PW, known: true },
+    Knows { part: 2, code: PE, known: true },
+    Knows { part: 2, code: SSE, known: true },
+    Knows { part: 2, code: WRLR, known: true },
+    Knows { part: 2, code: RDLR, known: true },
+    Knows { part: 6, code: RES, known: false },
+    Knows { part: 6, code: DP, known: false },
+    ReleaseSigns,
+    Needs(locks::long_release),
+    Needs(locks::pulsed_release),
+    Needs(locks::longer_lock_read),
+    Needs(locks::whole_lock_read),
+    Needs(locks::long_lock_write),
+    Needs(locks::one_page_at_most),
+    NoLatchFor(WRLR),
+    NoLatchFor(PW),
+    NoLatchFor(PE),
+    NoLatchFor(SSE),
+    // a frozen register is looked at before the latch
+    LooksInOrder([11, 14, 12, 13, 15, 19, 16, 17, 18]),
+    Stops(locks::bulk_erase_by_bp_alone),
+    Stops(locks::bulk_erase_by_all_locks),
+    Stops(locks::program_by_lock_down),
+    Stops(locks::bulk_erase_by_lock_down),
+    Stops(locks::page_write_by_lock_alone),
+    Stops(locks::lock_write_by_protection),
+    Stops(locks::lock_of_the_next),
+    NotStopped(PP),
+    NotStopped(SE),
+    NotStopped(PW),
+    NotStopped(PE),
+    NotStopped(SSE),
+    Frozen(locks::never),
+    Frozen(locks::unless_equal),
+    Frozen(locks::unless_stricter),
+    Frozen(locks::by_any),
+    Frozen(locks::by_write_lock),
+    FrozenByW,
+    Writes(locks::keeping_the_latch),
+    Writes(locks::all),
+    Writes(locks::setting),
+    Writes(locks::exchanged),
+    Writes(locks::clean_alone),
+    Writes(locks::in_a_cycle),
+    Unlocks(WREN),
+    Unlocks(WRDI),
+    Unlocks(DP),
+    CycleUnlocks,
+    PowerUpKeepsLocks { in_a_cycle: true },
+    PowerUpKeepsLocks { in_a_cycle: false },
+    Delivery(locks_delivered),
+    losses::Afterwards(losses::locks_stay),
+    losses::Afterwards(losses::locks_stay_at_rest),
+    Drives(locks::lock_once),
+    Drives(locks::locks_in_order),
+    Drives(locks::reserved_ones),
+    Drives(locks::lock_after_a_byte),
+    Written(writes::clearing),
+    Written(writes::setting_bits),
+    Written(writes::erasing_the_rest),
+    Written(writes::all_slots),
+    Names(writes::from_the_beginning),
+    Names(writes::up_to_the_end),
+    Names(writes::one_less),
+    Reaches { kind: 6, like: |address| Cycle::SectorErase { address } },
+    Reaches { kind: 6, like: |address| Cycle::SubsectorErase { address } },
+    Reaches { kind: 7, like: |address| Cycle::SectorErase { address } },
+    Reaches { kind: 7, like: |address| Cycle::PageErase { address } },
+    Reaches { kind: 2, like: |address| Cycle::SubsectorErase { address } },
+    Lasts { kind: 5, like: |r| r.sector_erase },
+    Lasts { kind: 6, like: |r| r.sector_erase },
+    Lasts { kind: 7, like: |r| r.program },
+    Lasts { kind: 7, like: |r| r.bulk_erase },
+    CountsPageWrites,
+    Remembers(writes::every_byte_named),
+    Remembers(writes::page_named),
+    Remembers(writes::address_of_the_last),
+    Remembers(writes::first_bytes),
+    Remembers(writes::start_of_the_erased),
+    Remembers(empty_slots_written),
+    Afterwards(program_names),
+    Afterwards(equal_bytes_at_once),
+    PowerUpForgetsThePageWrite,
+    PowerUpErasesThePageWrite,
+    CutByte(losses::small_erase_completes),
+    CutByte(losses::named_forgotten),
+    CutByte(losses::page_write_completes),
+    CutByte(losses::page_write_programs),
+    PutRight(soundness::unused_named),
+    PutRight(soundness::named_beyond),
+    PutRight(soundness::lock_bits_above),
+    PutRight(soundness::locks_elsewhere),
+    PutRight(soundness::kinds_elsewhere),
+    NotTaken(soundness::unnamed_slots),
+    NotTaken(soundness::deep_unsigned),
+    NotTaken(soundness::lock_down_alone),
+];
+
+/// The fault of this name, of the calls.
+pub fn named_so(name: &str) -> &'static dyn Model {
+    let found = CHIP.iter().chain(M25PE40).find(|fault| fault.0 == name);
+    found.unwrap_or_else(|| panic!("no fault {name}")).1
+}
 
 /// Changes a packed record that is sound.
 fn amend(record: &mut [u8], change: impl FnOnce(&mut Record)) {

@@ -105,7 +105,7 @@ impl Generator {
         }
         let mut part = self.part as u32;
         if odd && self.rng.one_in(2) {
-            part = self.rng.pick(&[0, 1, 2, 3, 4, 5, 6, 7, 255, 256, 0x1_0000, u32::MAX]);
+            part = self.rng.pick(&[0, 1, 2, 3, 4, 5, 6, 7, 8, 255, 256, 0x1_0000, u32::MAX]);
         }
         Call::Deliver { part, durations }
     }
@@ -158,6 +158,9 @@ impl Generator {
         let likely = match now.mode {
             Mode::Busy(..) => RDSR,
             Mode::Deep => RES,
+            Mode::Standby if now.latch && now.figures().locks => {
+                self.rng.pick(&[WRSR, PP, PP, SE, BE, PW, PW, PE, SSE, WRLR, WRLR, READ, RDLR])
+            }
             Mode::Standby if now.latch => {
                 self.rng.pick(&[WRSR, WRSR, PP, PP, PP, PP, PP, SE, BE, READ, FAST_READ])
             }
@@ -185,10 +188,12 @@ impl Generator {
         };
         let mut n = match code {
             WREN | WRDI | BE | DP => 1,
+            RES if now.figures().locks => 1,
             WRSR => 2,
-            SE => 4,
-            PP | FAST_READ => 5 + some,
-            READ => 4 + some,
+            SE | PE | SSE => 4,
+            WRLR => 5,
+            PP | PW | FAST_READ => 5 + some,
+            READ | RDLR => 4 + some,
             _ => 1 + some.min(2_000),
         };
         match self.rng.below(24) {
@@ -203,8 +208,12 @@ impl Generator {
             sent[1] = self.rng.byte();
         }
         let mut sent = self.stretched(sent, n);
-        if code == PP && self.rng.one_in(3) {
+        if matches!(code, PP | PW) && self.rng.one_in(3) {
             self.uneven(&mut sent[n.min(4)..]);
+        }
+        if code == WRLR && n > 4 {
+            let (any, lock) = (self.rng.byte(), now.lock(address % now.figures().bytes));
+            sent[4] = self.rng.pick(&[any & 3, any & 1, lock, any]);
         }
         sent
     }
@@ -228,13 +237,14 @@ impl Generator {
         sent
     }
 
-    /// A 24-bit address: at an end, at a sector or protection boundary, near the spot, or anywhere; now
-    /// and then with bits above the part's size.
+    /// A 24-bit address: at an end, at the beginning of a sector, a protected or a locked one perhaps, near the spot,
+    /// or anywhere; now and then with bits above the part's size.
     fn address(&mut self, now: &Record) -> usize {
         let part = &PARTS[self.part];
         let near = self.rng.below(5);
         let open = part.sectors - part.protected[now.bp as usize];
-        let sector = self.rng.pick(&[self.part, open, part.sectors / 2]);
+        let locked = now.locks.iter().position(|lock| *lock != 0).unwrap_or(open);
+        let sector = self.rng.pick(&[self.part, open, part.sectors / 2, locked, locked + 1]);
         let base = match self.rng.below(10) {
             0 => near,
             1 => part.bytes - 1 - near,

@@ -9,11 +9,16 @@ mod transaction;
 
 use std::ops::Range;
 
-pub use cycle::{Cycle, CYCLE_BYTES, PAGE};
+use record::changed;
+use transaction::accepted;
+
+pub use cycle::{Cycle, CYCLE_BYTES, NAMED_AT, PAGE, SLOTS_AT, SUBSECTOR};
 pub use part::{Part, PARTS, SMALL};
 pub use record::{is_duration, latch_at, Mode, Packed, Record, CYCLE_AT, RECORD_BYTES};
-pub use transaction::{address, full_address, Outcome, Transaction, CODES};
+pub use record::{LOCKS, LOCKS_AT, LOCK_DOWN, WRITE_LOCK};
+pub use transaction::{address, as_needed, full_address, needs_latch, Outcome, Transaction, CODES};
 pub use transaction::{BE, DP, FAST_READ, PP, RDID, RDSR, READ, RES, SE, WRDI, WREN, WRSR};
+pub use transaction::{PE, PW, RDLR, SSE, WRLR};
 
 /// The rules.
 pub trait Model: Sync {
@@ -27,7 +32,7 @@ pub trait Model: Sync {
         if record.len() != RECORD_BYTES {
             return Outcome::only(8);
         }
-        if part > 5 {
+        if part > 6 {
             return Outcome::only(1);
         }
         if array.len() != PARTS[part as usize].bytes {
@@ -37,18 +42,7 @@ pub trait Model: Sync {
             return Outcome::only(7);
         }
         array.fill(0xFF);
-        let delivered = Record {
-            part: part as u8,
-            bp: 0,
-            srwd: false,
-            latch: false,
-            mode: Mode::Standby,
-            program: durations[0],
-            sector_erase: durations[1],
-            bulk_erase: durations[2],
-            write_status: durations[3],
-        };
-        record.copy_from_slice(&delivered.pack());
+        record.copy_from_slice(&Record::standby(part as u8).lasting(durations).pack());
         Outcome::only(0)
     }
 
@@ -59,7 +53,7 @@ pub trait Model: Sync {
         t: Transaction,
         response: &mut [u8],
     ) -> Outcome {
-        let mut r = match self.accept(record, array, t, response) {
+        let mut r = match accepted(self.lent(record, array), t, response) {
             Ok(r) => r,
             Err(number) => return Outcome::only(number),
         };
@@ -77,47 +71,33 @@ pub trait Model: Sync {
     }
 
     fn wait(&self, record: &mut [u8], array: &mut [u8], ticks: u32) -> Outcome {
-        let mut r = match self.lent(record, array) {
-            Ok(r) => r,
-            Err(number) => return Outcome::only(number),
-        };
-        if let Mode::Busy(left, cycle) = r.mode {
-            if ticks < left {
-                self.in_cycle(&mut r, left - ticks, cycle);
-            } else {
-                self.complete(&mut r, array, &cycle);
-                r = r.rested();
+        changed(self.lent(record, array), record, |r| match r.mode {
+            Mode::Busy(left, cycle) if ticks < left => self.in_cycle(r, left - ticks, cycle),
+            Mode::Busy(_, cycle) => {
+                self.complete(r, array, &cycle);
+                *r = r.rested();
             }
-        }
-        record.copy_from_slice(&r.pack());
-        Outcome::only(0)
+            _ => {}
+        })
     }
 
     fn power_up(&self, record: &mut [u8], array: &mut [u8]) -> Outcome {
-        let mut r = match self.lent(record, array) {
-            Ok(r) => r,
-            Err(number) => return Outcome::only(number),
-        };
-        if let Some(cycle) = r.cycle() {
-            self.complete(&mut r, array, &cycle);
-        }
-        record.copy_from_slice(&r.rested().pack());
-        Outcome::only(0)
+        changed(self.lent(record, array), record, |r| {
+            if let Some(cycle) = r.cycle() {
+                self.complete(r, array, &cycle);
+            }
+            *r = r.rested().unlocked();
+        })
     }
 
     fn loss(&self, record: &mut [u8], array: &mut [u8], mask: &[u8], yes: u32) -> Outcome {
-        let mut r = match self.lent(record, array) {
-            Ok(r) => r,
-            Err(number) => return Outcome::only(number),
-        };
-        if mask.len() != PAGE {
-            return Outcome::only(41);
-        }
-        if let Some(cycle) = r.cycle() {
-            self.cut(&mut r, array, &cycle, mask, yes);
-        }
-        record.copy_from_slice(&r.rested().pack());
-        Outcome::only(0)
+        let whole = |r| if mask.len() == PAGE { Ok(r) } else { Err(41) };
+        changed(self.lent(record, array).and_then(whole), record, |r| {
+            if let Some(cycle) = r.cycle() {
+                self.cut(r, array, &cycle, mask, yes);
+            }
+            *r = r.rested().unlocked();
+        })
     }
 
     /// The record, or 8 or 6.
@@ -137,27 +117,6 @@ pub trait Model: Sync {
         Ok(r)
     }
 
-    /// The record, or the host side's number: 8, 6, then 2, 3, 4, 5.
-    fn accept(
-        &self,
-        record: &[u8],
-        array: &[u8],
-        t: Transaction,
-        response: &[u8],
-    ) -> Result<Record, u8> {
-        let r = self.lent(record, array)?;
-        if t.sent.len() > 65_536 {
-            return Err(3);
-        }
-        if t.pulses > 7 {
-            return Err(4);
-        }
-        if response.len() < t.sent.len() {
-            return Err(5);
-        }
-        Ok(r)
-    }
-
     /// The chip's number, the first that applies; 0 where it executes.
     fn ignored(&self, r: &Record, t: Transaction) -> u8 {
         let applies = |number: &u8| self.applies(*number, r, t);
@@ -165,8 +124,8 @@ pub trait Model: Sync {
     }
 
     /// The chip's numbers, in their order.
-    fn chip_numbers(&self) -> [u8; 8] {
-        [11, 14, 12, 13, 15, 16, 17, 18]
+    fn chip_numbers(&self) -> [u8; 9] {
+        [11, 14, 12, 13, 15, 16, 17, 18, 19]
     }
 
     /// When each applies, given that none before it does.
@@ -180,10 +139,11 @@ pub trait Model: Sync {
             14 => !self.known(r.figures(), code),
             12 => r.cycle().is_some() && code != RDSR,
             13 => r.mode == Mode::Deep && code != RES,
-            15 => !transaction::as_needed(code, n, t.pulses),
-            16 => matches!(code, WRSR | PP | SE | BE) && !r.latch,
+            15 => !self.as_needed(r.figures(), code, n, t.pulses),
+            16 => self.needs_latch(code) && !r.latch,
             17 => self.protected(r, t),
             18 => code == WRSR && self.frozen(r, t.w),
+            19 => code == WRLR && self.locked_down(r, t.sent),
             _ => false,
         }
     }
@@ -192,16 +152,27 @@ pub trait Model: Sync {
     fn known(&self, part: &Part, code: u8) -> bool {
         match code {
             RDID => part.identification.is_some(),
-            DP | RES => part.signature.is_some(),
+            DP | RES => part.deep,
+            PW | PE | SSE | WRLR | RDLR => part.locks,
             _ => CODES.contains(&code),
         }
     }
 
-    /// PP or SE in a protected sector; BE with BP above 0.
+    /// Whether n and the further pulses are as the instruction needs.
+    fn as_needed(&self, part: &Part, code: u8, n: usize, pulses: u32) -> bool {
+        as_needed(part, code, n, pulses)
+    }
+
+    /// Whether the instruction needs the latch.
+    fn needs_latch(&self, code: u8) -> bool {
+        needs_latch(code)
+    }
+
+    /// A program, a write or an erase in a protected sector; BE with any protected.
     fn protected(&self, r: &Record, t: Transaction) -> bool {
         match t.sent[0] {
-            PP | SE => in_protected_sector(r, address(r.figures(), t.sent)),
-            BE => r.bp > 0,
+            PP | SE | PW | PE | SSE => r.protects(address(r.figures(), t.sent)),
+            BE => r.protects_any(),
             _ => false,
         }
     }
@@ -209,6 +180,11 @@ pub trait Model: Sync {
     /// SRWD set and W low.
     fn frozen(&self, r: &Record, w: u32) -> bool {
         r.srwd && w == 0
+    }
+
+    /// Whether the addressed lock register is frozen.
+    fn locked_down(&self, r: &Record, sent: &[u8]) -> bool {
+        r.lock(address(r.figures(), sent)) & LOCK_DOWN != 0
     }
 
     /// Writes the first n response bytes of an executed transaction.
@@ -237,6 +213,7 @@ pub trait Model: Sync {
             READ if i >= 4 => Some(self.read(array, address(part, sent) + i - 4)),
             FAST_READ if i >= 5 => Some(self.read(array, address(part, sent) + i - 5)),
             RES if i >= 4 => part.signature,
+            RDLR if i >= 4 => Some(r.lock(address(part, sent))),
             _ => None,
         }
     }
@@ -246,14 +223,6 @@ pub trait Model: Sync {
         array[at % array.len()]
     }
 
-    /// What the chip drives during the last of these bytes; that byte itself does not matter.
-    fn drives_last(&self, r: &Record, array: &[u8], sent: &[u8]) -> Option<u8> {
-        if self.ignored(r, Transaction { sent, pulses: 0, w: 1 }) != 0 {
-            return None;
-        }
-        self.driven(r, array, sent, sent.len() - 1)
-    }
-
     /// What an executed transaction does to the record; it does nothing to the array.
     fn change(&self, r: &mut Record, sent: &[u8]) {
         match sent[0] {
@@ -261,27 +230,45 @@ pub trait Model: Sync {
             WRDI => r.latch = false,
             DP => r.mode = Mode::Deep,
             RES => r.mode = Mode::Standby,
+            WRLR => self.write_lock(r, address(r.figures(), sent), sent[4]),
             _ => {
                 if let Some(cycle) = self.started(r, sent) {
-                    self.in_cycle(r, r.duration(&cycle), cycle);
+                    self.in_cycle(r, self.duration(r, &cycle), cycle);
                 }
             }
         }
     }
 
+    /// Bits 1 and 0 go to the sector's lock register at once, and the latch is reset.
+    fn write_lock(&self, r: &mut Record, address: usize, byte: u8) {
+        let sector = address / r.figures().sector_bytes;
+        r.locks[sector] = byte & (LOCK_DOWN | WRITE_LOCK);
+        r.latch = false;
+    }
+
     /// The cycle that an instruction starts, if it starts one.
     fn started(&self, r: &Record, sent: &[u8]) -> Option<Cycle> {
         let part = r.figures();
+        let address = || address(part, sent);
+        let slots = || self.slots(address(), &sent[4..]);
         match sent[0] {
             WRSR => Some(Cycle::Settings { bp: self.bp(part, sent[1]), srwd: sent[1] & 0x80 != 0 }),
-            PP => {
-                let address = address(part, sent);
-                Some(Cycle::Program { address, slots: self.slots(address, &sent[4..]) })
+            PP => Some(Cycle::Program { address: address(), slots: slots() }),
+            PW => {
+                let named = (sent.len() - 4).min(PAGE);
+                Some(Cycle::PageWrite { address: address(), slots: slots(), named })
             }
-            SE => Some(Cycle::SectorErase { address: address(part, sent) }),
+            SE => Some(Cycle::SectorErase { address: address() }),
+            SSE => Some(Cycle::SubsectorErase { address: address() }),
+            PE => Some(Cycle::PageErase { address: address() }),
             BE => Some(Cycle::BulkErase),
             _ => None,
         }
+    }
+
+    /// How long a cycle takes that starts now.
+    fn duration(&self, r: &Record, cycle: &Cycle) -> u32 {
+        r.duration(cycle)
     }
 
     /// In a cycle with so many ticks left.
@@ -336,20 +323,29 @@ pub trait Model: Sync {
 
     /// A byte of the area when the cycle is complete.
     fn completed(&self, cycle: &Cycle, old: u8, at: usize) -> u8 {
-        match cycle {
+        match *cycle {
             Cycle::Program { slots, .. } => self.programmed(old, slots[at % PAGE]),
-            Cycle::SectorErase { .. } | Cycle::BulkErase => 0xFF,
-            Cycle::Settings { .. } => old,
+            Cycle::PageWrite { address, slots, named } if self.names(address, named, at) => {
+                slots[at % PAGE]
+            }
+            Cycle::PageWrite { .. } | Cycle::Settings { .. } => old,
+            _ => 0xFF,
         }
     }
 
     /// A byte of the area when the cycle is cut.
     fn cut_short(&self, cycle: &Cycle, old: u8, at: usize, mask: &[u8]) -> u8 {
-        match cycle {
+        match *cycle {
             Cycle::Program { slots, .. } => old & (slots[at % PAGE] | mask[at % PAGE]),
-            Cycle::SectorErase { .. } | Cycle::BulkErase => old | mask[at % PAGE],
+            Cycle::PageWrite { address, named, .. } if !self.names(address, named, at) => old,
             Cycle::Settings { .. } => old,
+            _ => old | mask[at % PAGE],
         }
+    }
+
+    /// Whether a page write from the address on names this byte of its page.
+    fn names(&self, address: usize, named: usize, at: usize) -> bool {
+        (0..named).any(|k| (address + k) % PAGE == at % PAGE)
     }
 
     /// A slot after a further byte: the later one replaces the earlier.
@@ -395,9 +391,3 @@ pub trait Model: Sync {
 pub struct Paper;
 
 impl Model for Paper {}
-
-/// Whether the address lies in a protected sector.
-pub fn in_protected_sector(r: &Record, address: usize) -> bool {
-    let part = r.figures();
-    address / part.sector_bytes >= part.sectors - part.protected[r.bp as usize]
-}

@@ -87,14 +87,15 @@ impl PinsGenerator {
                     _ => call = self.calls.step(&now).call,
                 }
             };
-            if sent.first() != Some(&PP) && !self.rng.one_in(30) {
+            if !matches!(sent.first(), Some(&(PP | PW))) && !self.rng.one_in(30) {
                 sent.truncate(self.rng.pick(&[6, 12, 30]));
             }
             sent.truncate(700);
             match (sent.first(), sent.len()) {
                 (Some(&WREN), 1) => now.latch = true,
                 (Some(&RES), _) => now.mode = Mode::Standby,
-                (Some(&(WRSR | PP | SE | BE)), _) if now.latch => {
+                (Some(&(WRDI | WRLR)), _) => now.latch = false,
+                (Some(&(WRSR | PP | SE | BE | PW | PE | SSE)), _) if now.latch => {
                     now = now.busy(1, Cycle::BulkErase)
                 }
                 _ => {}

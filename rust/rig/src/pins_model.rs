@@ -111,7 +111,7 @@ pub trait PinsModel: Walking {
         let ran = output[found.from..found.to].iter_mut().zip(&walk.shown[found.from..]);
         for (byte, shown) in ran {
             let Some(m) = *shown else { continue };
-            *byte = match Paper.drives_last(r, array, &line[..=m / 8]) {
+            *byte = match drives_last(r, array, &line[..=m / 8]) {
                 Some(driven) => self.bit(driven, m % 8),
                 None => NOT_DRIVEN,
             };
@@ -134,3 +134,11 @@ pub trait PinsModel: Walking {
 }
 
 impl PinsModel for Paper {}
+
+/// What the chip drives during the last of these bytes; that byte itself does not matter.
+pub fn drives_last(r: &Record, array: &[u8], sent: &[u8]) -> Option<u8> {
+    if Paper.ignored(r, Transaction { sent, pulses: 0, w: 1 }) != 0 {
+        return None;
+    }
+    Paper.driven(r, array, sent, sent.len() - 1)
+}

@@ -240,6 +240,21 @@ yes 256: 0 0 0 0
 yes 2^31: 0 0 0 0
 2 1 0
 once more: 0 0 0 0
+locks
+deliver: 0 0 0 0
+lock without the latch: 16 0 0 0
+lock: 0 0 0 0
+look: 0 4 2 0
+FF 03 03
+page write, locked: 17 0 0 0
+lock, frozen: 19 0 0 0
+3
+power-up: 0 0 0 0
+0
+page write: 0 0 0 0
+5 2
+wait: 0 0 0 0
+12 34 FF
 parts
 bench: 0 0 0, 00 00 0C, 0B
 M25P10-A: 0 0 0, 20 20 11, 10
@@ -247,7 +262,8 @@ M25P40: 0 0 0, 20 20 13, 12
 M25P32: 0 0 0, 20 20 16, 15
 M25P128: 0 0 14, 20 20 18, FF
 older M25P10-A: 0 14 0, FF FF FF, 10
-part 6: 1 0 0 0
+M25PE40: 0 0 15, 20 80 13, FF
+part 7: 1 0 0 0
 ";
 
 #[test]

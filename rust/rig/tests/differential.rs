@@ -1,4 +1,4 @@
-//! libm25p.a against the model, over all six parts. RIG_CALLS and RIG_SEED make it longer or another.
+//! libm25p.a against the model, over all seven parts. RIG_CALLS and RIG_SEED make it longer or another.
 
 use m25p::Answer;
 use rig::compare::{episode, Rules, Tally, PAPER};
@@ -12,7 +12,7 @@ const DEFAULT_CALLS: u64 = 1_000_000;
 const DEFAULT_SEED: u64 = 1;
 
 /// Calls of one episode, by part: filling and comparing the large arrays takes its time.
-const EPISODE: [u64; PARTS.len()] = [500, 1_000, 2_000, 5_000, 25_000, 1_000];
+const EPISODE: [u64; PARTS.len()] = [500, 1_000, 2_000, 5_000, 25_000, 1_000, 2_000];
 
 fn number(name: &str, default: u64) -> u64 {
     match std::env::var(name) {
@@ -48,17 +48,18 @@ fn calls_equal_model() {
         assert!(times >= 20, "instruction {code:02X} was executed {times} times only");
     }
     assert_eq!(tally.programs.seldom(20), [""; 0], "programs that came too seldom");
-    assert_eq!(tally.ends.seldom(20), [""; 0], "what became of cycles too seldom");
+    assert_eq!(tally.ends.seldom(20, &PARTS[6]), [""; 0], "what became of cycles too seldom");
+    assert_eq!(tally.locks.seldom(20), [""; 0], "what the M25PE40 did too seldom");
 }
 
 /// With a fault in the model the same comparison finds a difference, each time.
 #[test]
 fn faults_are_seen() {
-    for (name, fault) in faults::CHIP {
+    for (name, fault) in faults::CHIP.iter().chain(faults::M25PE40) {
         let rules = Rules { chip: *fault, ..PAPER };
         let mut seeds = Rng::new(DEFAULT_SEED);
         let mut tally = Tally::default();
-        let seen = (0..40).any(|i| {
+        let seen = (0..50).any(|i| {
             let part = SMALL[i % SMALL.len()];
             episode::<Generator>(part, EPISODE[part], seeds.draw(), rules, &mut tally).is_err()
         });

@@ -1,34 +1,38 @@
 //! Cycles and power losses, libm25p.a against the model on whole ranges: a cut at every tick, every byte that a cut can
-//! leave, every place of the parts, every byte of a packed cycle damaged, and wrong lengths in every mode.
+//! leave, every place of the parts, every byte of a packed cycle and each lock register damaged, and wrong lengths in
+//! every mode.
 
 #[path = "support/sweep.rs"]
 mod swept;
 
 use rig::compare::Call;
-use rig::model::{
-    Cycle, Mode, Record, BE, CYCLE_AT, PAGE, PARTS, PP, RDSR, RECORD_BYTES, SE, WRSR,
-};
+use rig::model::{Cycle, Mode, Record, CYCLE_AT, LOCK_DOWN, NAMED_AT, PAGE, PARTS, RECORD_BYTES};
+use rig::model::{BE, PE, PP, PW, RDSR, SE, SMALL, SSE, WRSR};
 use swept::{addressed, Sweep};
 
-/// A part with the latch set, and with the same duration for every cycle.
+/// A part with the latch set, and with the same duration for every cycle; lock registers stop none of them.
 fn timed(part: u8, ticks: u32) -> Record {
-    let durations = Record::standby(part);
-    let standby = Record { program: ticks, sector_erase: ticks, ..durations };
-    Record { latch: true, bulk_erase: ticks, write_status: ticks, ..standby }
+    let standby = Record::standby(part).lasting([ticks; 4]);
+    let lock = if standby.figures().locks { LOCK_DOWN } else { 0 };
+    Record { latch: true, locks: [lock, 0, 0, lock, 0, 0, lock, lock], ..standby }
 }
 
 /// What starts each kind of cycle, in the middle of a page and of a sector.
-fn starts(sweep: &mut Sweep, part: u8) -> [Vec<u8>; 4] {
-    let address = PARTS[part as usize].bytes / 2 + 300;
-    let data = sweep.rng.bytes(200);
-    [addressed(PP, address, &data), addressed(SE, address, &[]), vec![BE], vec![WRSR, 0x88]]
+fn starts(sweep: &mut Sweep, part: u8) -> Vec<Vec<u8>> {
+    let figures = &PARTS[part as usize];
+    let address = figures.bytes / 2 + 300;
+    let [data, written] = [(), ()].map(|()| sweep.rng.bytes(200));
+    let erase = |code| addressed(code, address, &[]);
+    let old = vec![addressed(PP, address, &data), erase(SE), vec![BE], vec![WRSR, 0x88]];
+    let new = vec![addressed(PW, address + 50, &written), erase(PE), erase(SSE)];
+    old.into_iter().chain(new).take(figures.kinds()).collect()
 }
 
 /// Every kind, of 1, 2, 3 and 5 ticks, cut after each tick, with masks of 00, of FF and random, with yes and with no;
 /// then power is lost once more. The same instruction is also waited out and powered up after each tick.
 #[test]
 fn cuts_at_every_tick() {
-    for part in [0, 1, 2, 5] {
+    for part in SMALL.map(|part| part as u8) {
         let mut sweep = Sweep::new(part);
         let starts = starts(&mut sweep, part);
         for duration in [1, 2, 3, 5] {
@@ -41,7 +45,7 @@ fn cuts_at_every_tick() {
             }
         }
         // there are eleven pairs of a duration and the ticks passed
-        assert_eq!(sweep.tally.ends.seldom(11), [""; 0]);
+        assert_eq!(sweep.tally.ends.seldom(11, &PARTS[part as usize]), [""; 0]);
         sweep.pair.compare_array().unwrap();
     }
 }
@@ -72,6 +76,12 @@ fn cycle(sweep: &mut Sweep, from: Record, sent: &[u8], passed: u32, end: Call) {
     assert_eq!(sweep.pair.record().mode, Mode::Standby);
     let mask = sweep.rng.bytes(PAGE);
     sweep.call(None, Call::Loss { mask, yes: 1 });
+}
+
+/// Those of the cycles that are of the part's kinds.
+fn on(part: u8, cycles: Vec<Cycle>) -> impl Iterator<Item = Cycle> {
+    let kinds = PARTS[part as usize].kinds();
+    cycles.into_iter().filter(move |cycle| usize::from(cycle.kind()) <= kinds)
 }
 
 /// A page with these slots, on its way.
@@ -116,8 +126,9 @@ fn every_byte_of_a_cut_erase() {
     }
 }
 
-/// Programs in the first and the last page of every sector, sector erases from its last byte, on every part and under
-/// every BP: a cycle that is running is not asked for protection. Cut, waited out and powered up in turn.
+/// Programs and writes in the first and the last page of every sector, erases from its last byte, on every part, under
+/// every BP and with every lock: a cycle that is running is not asked for protection. Cut, waited out and powered up in
+/// turn.
 #[test]
 fn every_sector() {
     for part in 0..PARTS.len() as u8 {
@@ -127,13 +138,22 @@ fn every_sector() {
             let first = sector * figures.sector_bytes;
             let last = first + figures.sector_bytes - 1;
             let bp = (sector % (figures.highest_bp as usize + 1)) as u8;
-            let from = Record { bp, ..timed(part, 3) };
+            let mut from = Record { bp, ..timed(part, 3) };
+            if figures.locks {
+                from.locks[sector] = sector as u8 % 4;
+            }
             let slots: [u8; PAGE] = sweep.rng.bytes(PAGE).try_into().unwrap();
-            for cycle in [
+            let cycles = vec![
                 Cycle::Program { address: first, slots },
                 Cycle::Program { address: last, slots },
                 Cycle::SectorErase { address: last },
-            ] {
+                Cycle::PageWrite { address: first, slots, named: 100 },
+                Cycle::PageWrite { address: last, slots, named: 100 },
+                Cycle::PageErase { address: last },
+                Cycle::SubsectorErase { address: last },
+                Cycle::SubsectorErase { address: first },
+            ];
+            for cycle in on(part, cycles) {
                 let mask = sweep.rng.bytes(PAGE);
                 for end in [Call::Loss { mask, yes: 1 }, Call::Wait(2), Call::PowerUp] {
                     sweep.call(Some(from.busy(2, cycle).pack()), end);
@@ -148,12 +168,18 @@ fn every_sector() {
 fn records(part: u8) -> Vec<Record> {
     let standby = timed(part, 3);
     let (address, slots) = (0x123, [0x5A; PAGE]);
-    let settings = Cycle::Settings { bp: 2, srwd: true };
-    let erase = Cycle::SectorErase { address };
-    let cycles = [Cycle::Program { address, slots }, erase, Cycle::BulkErase, settings];
-    let busy = cycles.map(|cycle| standby.busy(2, cycle));
+    let cycles = vec![
+        Cycle::Program { address, slots },
+        Cycle::SectorErase { address },
+        Cycle::BulkErase,
+        Cycle::Settings { bp: 2, srwd: true },
+        Cycle::PageWrite { address, slots, named: 0x81 },
+        Cycle::PageErase { address },
+        Cycle::SubsectorErase { address },
+    ];
+    let busy = on(part, cycles).map(|cycle| standby.busy(2, cycle));
     let rest = [standby, Record { mode: Mode::Deep, ..standby }];
-    busy.into_iter().chain(rest).collect()
+    busy.chain(rest).collect()
 }
 
 /// Every call on a record: a status read, a wait to the end, a power-up and a loss. How many are refused with 6.
@@ -167,16 +193,16 @@ fn refused(sweep: &mut Sweep, record: [u8; RECORD_BYTES]) -> usize {
         .count()
 }
 
-/// Each byte of a packed cycle in turn with several values, in every kind, in standby and in deep power-down, on a part
-/// of either highest BP: all four calls say the same of it.
+/// Each byte of a packed cycle and each lock register in turn with several values, in every kind, in standby and in deep
+/// power-down, on a part of either highest BP and on the M25PE40: all four calls say the same of it.
 #[test]
 fn every_byte_of_a_cycle_damaged() {
-    for part in [0, 2] {
+    for part in [0, 2, 6] {
         let mut sweep = Sweep::new(part);
         let (mut sound, mut unsound) = (0, 0);
         for record in records(part) {
             for at in CYCLE_AT..RECORD_BYTES {
-                for value in [0, 1, 2, 3, 4, 5, 7, 8, 0x10, 0x80, 0xFF] {
+                for value in [0, 1, 2, 3, 4, 5, 6, 7, 8, 0x10, 0x80, 0xFF] {
                     let mut bytes = record.pack();
                     bytes[at] = value;
                     match refused(&mut sweep, bytes) {
@@ -191,18 +217,24 @@ fn every_byte_of_a_cycle_damaged() {
     }
 }
 
-/// Every pair of bytes before the slots, with values around their limits.
+/// Every pair of bytes before the slots and behind them, with values around their limits.
 #[test]
 fn every_two_bytes_of_a_cycle_damaged() {
-    let mut sweep = Sweep::new(0);
     let values = [0, 1, 3, 4, 0x0F, 0x10];
-    for record in records(0) {
-        for first in CYCLE_AT..CYCLE_AT + 9 {
-            for second in first + 1..CYCLE_AT + 9 {
-                for value in values.into_iter().flat_map(|a| values.map(|b| [a, b])) {
-                    let mut bytes = record.pack();
-                    (bytes[first], bytes[second]) = (value[0], value[1]);
-                    assert!([0, 4].contains(&refused(&mut sweep, bytes)));
+    for part in [0, 6] {
+        let mut sweep = Sweep::new(part);
+        let around: Vec<usize> =
+            (CYCLE_AT..CYCLE_AT + 9).chain(CYCLE_AT + NAMED_AT - 1..RECORD_BYTES).collect();
+        // of the larger part without the bulk erase, which takes its time
+        let quick = |record: &Record| part == 0 || record.cycle() != Some(Cycle::BulkErase);
+        for record in records(part).into_iter().filter(quick) {
+            for (i, first) in around.iter().enumerate() {
+                for second in &around[i + 1..] {
+                    for value in values.into_iter().flat_map(|a| values.map(|b| [a, b])) {
+                        let mut bytes = record.pack();
+                        (bytes[*first], bytes[*second]) = (value[0], value[1]);
+                        assert!([0, 4].contains(&refused(&mut sweep, bytes)));
+                    }
                 }
             }
         }
@@ -217,7 +249,7 @@ fn wrong_lengths() {
         let mut unsound = record.pack();
         unsound[CYCLE_AT + 3] = 1;
         for (packed, sound) in [(record.pack(), true), (unsound, false)] {
-            for record_len in [0, 28, RECORD_BYTES - 1, RECORD_BYTES, RECORD_BYTES + 1] {
+            for record_len in [0, 28, 292, RECORD_BYTES - 1, RECORD_BYTES, RECORD_BYTES + 1] {
                 for array_len in [0, 4_095, 4_096, 4_097] {
                     let right = (record_len == RECORD_BYTES, sound, array_len == 4_096);
                     let number = |behind| match right {

@@ -114,15 +114,16 @@ fn array_at_the_end() {
     assert_eq!((chip.array[0x3FF], chip.array[0x300], chip.array[0x301]), (0x03, 0x03, 0xC3));
 }
 
-/// Kind, new BP and SRWD, a zero byte, the address, the slots; outside a cycle zeros.
+/// Kind, new BP and SRWD, a zero byte, the address, the slots; outside a cycle zeros, and behind the slots too.
 #[test]
 fn packed_cycles() {
     let packed = |sent: &[u8]| started(worked(), sent).record[28..].to_vec();
-    let mut program = vec![0xFF; 264];
+    let mut program = vec![0xFF; 276];
     program[..8].copy_from_slice(&[1, 0, 0, 0, 0xFF, 0x03, 0, 0]);
     (program[8 + 255], program[8]) = (0x0F, 0x33);
+    program[264..].fill(0x00);
     assert_eq!(packed(STARTS[0]), program);
-    let rest = |head: &[u8]| [head, &vec![0; 264 - head.len()]].concat();
+    let rest = |head: &[u8]| [head, &vec![0; 276 - head.len()]].concat();
     assert_eq!(packed(STARTS[1]), rest(&[2, 0, 0, 0, 0xFE, 0x07]));
     assert_eq!(
         packed(&[0xD8, 0xFF, 0xF7, 0xFE]),
@@ -137,7 +138,7 @@ fn packed_cycles() {
     assert_eq!(started(larger, &[0x01, 0x9C]).record[28..31], [4, 7, 1]);
     let mut ended = started(worked(), STARTS[0]);
     ended.wait(3);
-    assert_eq!(ended.record[28..], [0; 264]);
+    assert_eq!(ended.record[28..], [0; 276]);
 }
 
 /// A busy record is sound with the latch set exactly if more than one tick is left.
@@ -156,7 +157,7 @@ fn sound(kind: u8, settings: [u8; 3], address: u32, slots: u8) -> bool {
     bytes[28] = kind;
     bytes[29..32].copy_from_slice(&settings);
     bytes[32..36].copy_from_slice(&address.to_le_bytes());
-    bytes[36..].fill(slots);
+    bytes[36..292].fill(slots);
     Record::unpack(&bytes).is_some_and(|record| record.pack() == bytes)
 }
 
@@ -167,7 +168,7 @@ fn sound_cycles() {
     assert!(sound(1, [0; 3], 4_095, 0x00) && sound(1, [0; 3], 0, 0xFF));
     assert!(sound(2, [0; 3], 4_095, 0x00) && sound(3, [0; 3], 0, 0x00));
     assert!(sound(4, [3, 1, 0], 0, 0x00) && sound(4, [0; 3], 0, 0x00));
-    for kind in [0, 5, 6, 128, 255] {
+    for kind in [0, 5, 6, 7, 8, 128, 255] {
         assert!(!sound(kind, [0; 3], 0, 0x00), "kind {kind}");
     }
     for kind in 1..=4 {

@@ -1,9 +1,9 @@
-//! m25p_pins against the model, over all six parts. RIG_RUNS and RIG_SEED make it longer or another.
+//! m25p_pins against the model, over all seven parts. RIG_RUNS and RIG_SEED make it longer or another.
 
 use m25p::{calls, Answer};
 use rig::compare::{episode, Call, Pair, Rules, Seen, Source, Step, Tally, PAPER};
 use rig::faults;
-use rig::model::{Packed, PARTS, RECORD_BYTES, SMALL};
+use rig::model::{Packed, CODES, PARTS, RECORD_BYTES, SMALL};
 use rig::pins_generate::PinsGenerator;
 use rig::pins_model::End;
 use rig::plain_pins;
@@ -15,10 +15,10 @@ const DEFAULT_RUNS: u64 = 20_000;
 const DEFAULT_SEED: u64 = 1;
 
 /// Runs of one episode, by part.
-const EPISODE: [u64; PARTS.len()] = [50, 50, 50, 20, 20, 50];
+const EPISODE: [u64; PARTS.len()] = [50, 50, 50, 20, 20, 50, 50];
 
 /// How many of a hundred runs go to each part: comparing the large arrays takes its time.
-const SHARE: [u64; PARTS.len()] = [55, 20, 12, 2, 1, 10];
+const SHARE: [u64; PARTS.len()] = [40, 15, 10, 2, 1, 7, 25];
 
 fn number(name: &str, default: u64) -> u64 {
     match std::env::var(name) {
@@ -47,8 +47,12 @@ fn runs_equal_model() {
     for answer in [0, 2, 6, 8, 21, 23] {
         assert!(tally.answers[answer] >= 20, "answer {answer} came too seldom");
     }
-    for answer in [0, 11, 12, 13, 14, 15, 16, 17, 18] {
+    for answer in [0, 11, 12, 13, 14, 15, 16, 17, 18, 19] {
         assert!(tally.pins.chip[answer] >= 20, "the chip's number {answer} came too seldom");
+    }
+    for code in CODES {
+        let times = tally.pins.executed[code as usize];
+        assert!(times >= 20, "instruction {code:02X} was executed {times} times only");
     }
     let ends = [tally.pins.carried_out, tally.pins.thrown_away, tally.pins.unfinished];
     assert!(ends.into_iter().all(|times| times >= 20), "an end came too seldom");

@@ -6,7 +6,7 @@
 
 use m25p::calls;
 use rig::model::{Cycle, Mode, Model, Packed, Paper, Record, Transaction, CODES, RECORD_BYTES};
-use rig::pins_model::{Outcome, PinsModel, CLOCK, DATA, HOLD, REST, SELECT, W};
+use rig::pins_model::{drives_last, Outcome, PinsModel, CLOCK, DATA, HOLD, REST, SELECT, W};
 use rig::rng::Rng;
 
 /// A bench part in standby, with A5 3C at address 0.
@@ -376,10 +376,12 @@ fn output_bytes_beyond_the_samples_are_untouched() {
 #[test]
 fn driven_after_the_bytes_before() {
     let mut rng = Rng::new(1);
-    let standby = Record { latch: true, bp: 0, ..worked() };
-    let deep = Record { mode: Mode::Deep, ..standby };
-    let busy = [2, 1].map(|left| standby.busy(left, Cycle::BulkErase));
-    for start in [standby, deep].into_iter().chain(busy) {
+    let locked = Record { latch: true, locks: [1, 2, 3, 0, 1, 2, 3, 0], ..Record::standby(6) };
+    let starts = [Record { latch: true, bp: 0, ..worked() }, locked].map(|standby| {
+        let busy = [2, 1].map(|left| standby.busy(left, Cycle::BulkErase));
+        [standby, Record { mode: Mode::Deep, ..standby }, busy[0], busy[1]]
+    });
+    for start in starts.concat() {
         for code in CODES.into_iter().chain([0x00, 0x9E]) {
             for n in 1..9 {
                 let (mut chip, array) = (case(start), case(start).array);
@@ -390,7 +392,7 @@ fn driven_after_the_bytes_before() {
                 for i in 0..n {
                     let mut line = sent[..i].to_vec();
                     line.push(rng.byte());
-                    let driven = Paper.drives_last(&start, &array, &line);
+                    let driven = drives_last(&start, &array, &line);
                     let counted = (outcome.first..outcome.first + outcome.count).contains(&i);
                     assert_eq!(driven, counted.then_some(response[i]), "{sent:02X?} byte {i}");
                 }

@@ -1,62 +1,23 @@
 //! What hardware protection is worth (Wish 8), on libm25p.a: from a chip in standby with SRWD set, random
 //! transactions with W low, runs of raw pins with W low as Select rises, waits, power-ups and power losses leave BP,
-//! SRWD and each byte of a protected sector as they were. Which sectors are protected is told by the paper's table.
+//! SRWD and each byte of a protected sector as they were. Which sectors are protected is told by the paper's table. The
+//! wish is of the M25P parts; the M25PE40 is tried with them.
+
+#[path = "support/tried.rs"]
+mod tried;
 
 use m25p::{Answer, Chip, Durations, Part};
-use rig::compare::{Call, Pair, Rules, Seen, Side, Source, Step, Tally, PAPER};
+use rig::compare::{Call, Pair, Rules, Source, Step, PAPER};
 use rig::faults;
 use rig::generate::Generator;
 use rig::model::{Mode, Record, PAGE, PARTS, PP, RDSR, RECORD_BYTES, SMALL, WREN, WRSR};
 use rig::pins_generate::PinsGenerator;
 use rig::pins_model::{REST, SELECT, W};
 use rig::rng::Rng;
+use tried::{endures, Answers, Made, Modelled, Tried};
 
-/// Calls from one start, and how many of them go by until a large array is looked at again.
-const CALLS: usize = 1_000;
+/// How many calls go by until a large array is looked at again.
 const INTERVAL: usize = 100;
-
-/// A chip on which the calls are made.
-trait Tried {
-    fn new(start: Record, rules: Rules, rng: &mut Rng) -> Self;
-    fn step(&mut self, step: &Step) -> Result<Seen, String>;
-    fn side(&self) -> &Side;
-}
-
-/// The library; the model beside it tells what the chip answered within a run of raw pins.
-impl Tried for Pair {
-    fn new(start: Record, rules: Rules, rng: &mut Rng) -> Pair {
-        Pair::new(start, rules, rng)
-    }
-
-    fn step(&mut self, step: &Step) -> Result<Seen, String> {
-        self.step(step, &mut Tally::default())
-    }
-
-    fn side(&self) -> &Side {
-        &self.real
-    }
-}
-
-/// The model alone, to put a fault into it.
-struct Modelled {
-    side: Side,
-    rules: Rules,
-}
-
-impl Tried for Modelled {
-    fn new(start: Record, rules: Rules, rng: &mut Rng) -> Modelled {
-        Modelled { side: Side::new(start, rng), rules }
-    }
-
-    fn step(&mut self, step: &Step) -> Result<Seen, String> {
-        self.side.prepare(step);
-        Ok(self.side.model_call(step, self.rules))
-    }
-
-    fn side(&self) -> &Side {
-        &self.side
-    }
-}
 
 /// Runs of raw pins, within which no ticks pass: between them a cycle ends or is cut, and so does deep power-down.
 struct Probing {
@@ -98,69 +59,34 @@ fn low_as_select_rises(samples: &mut [u8]) {
     }
 }
 
-/// A random call, refused ones too, with W low; no delivery, and none on another record.
-fn with_w_low(source: &mut impl Source, now: &Record) -> Step {
-    loop {
-        let mut step = source.step(now);
-        match &mut step.call {
-            Call::Deliver { .. } => continue,
-            Call::Transact { w, .. } => *w = 0,
-            Call::Pins { samples } => low_as_select_rises(samples),
-            Call::Wait(_) | Call::PowerUp | Call::Loss { .. } => {}
-        }
-        if step.record.is_none() {
-            return step;
-        }
+/// A call, refused ones too, with W low; no delivery.
+fn with_w_low(step: &mut Step) -> bool {
+    match &mut step.call {
+        Call::Deliver { .. } => return false,
+        Call::Transact { w, .. } => *w = 0,
+        Call::Pins { samples } => low_as_select_rises(samples),
+        Call::Wait(_) | Call::PowerUp | Call::Loss { .. } => {}
     }
+    true
 }
 
-/// How often each answer of the chip or the host side came, those within a run of raw pins singly, and how often power
-/// was lost in a cycle.
+/// What came, and how often power was lost in a cycle.
 struct Count {
-    answers: [u64; 64],
+    answers: Answers,
     cut: u64,
 }
 
-impl Count {
-    fn count(&mut self, call: &Call, seen: &Seen, before: &Record) {
-        match call {
-            Call::Pins { .. } => {
-                seen.chip.iter().for_each(|one| self.answers[one.answer as usize] += 1);
-            }
-            _ => self.answers[seen.answer() as usize] += 1,
-        }
-        let lost = matches!(call, Call::Loss { .. }) && seen.answer() == 0;
-        self.cut += u64::from(lost && before.cycle().is_some());
-    }
-}
-
-/// Many calls with W low from one start: what did not stay, in words.
-fn endures<S: Source, T: Tried>(
-    start: Record,
-    seed: u64,
-    rules: Rules,
-    count: &mut Count,
-) -> Result<(), String> {
-    let mut rng = Rng::new(seed);
+/// What is protected at the start stays: BP and SRWD, and each byte of a protected sector.
+fn kept(start: Record, made: &Made) -> Result<(), &'static str> {
     let part = start.figures();
-    let mut source = S::new(start.part as usize, rng.draw());
-    let mut chip = T::new(start, rules, &mut rng);
-    let was = chip.side().clone();
     let protected = (part.sectors - part.protected[start.bp as usize]) * part.sector_bytes..;
-    let told = |what: &str, call| format!("{start:?}, seed {seed}, call {call}: {what}");
-    for call in 1..=CALLS {
-        let before = Record::unpack(&chip.side().record[..RECORD_BYTES]).expect("a sound record");
-        let step = with_w_low(&mut source, &before);
-        let seen = chip.step(&step).map_err(|difference| told(&difference, call))?;
-        count.count(&step.call, &seen, &before);
-        // part, BP and SRWD are the first three bytes
-        if chip.side().record[..3] != was.record[..3] {
-            return Err(told("BP or SRWD is another", call));
-        }
-        let look = SMALL.contains(&(start.part as usize)) || call % INTERVAL == 0;
-        if look && chip.side().array[protected.clone()] != was.array[protected.clone()] {
-            return Err(told("a protected byte is another", call));
-        }
+    // part, BP and SRWD are the first three bytes
+    if made.is.record[..3] != made.was.record[..3] {
+        return Err("BP or SRWD is another");
+    }
+    let look = SMALL.contains(&(start.part as usize)) || made.call % INTERVAL == 0;
+    if look && made.is.array[protected.clone()] != made.was.array[protected] {
+        return Err("a protected byte is another");
     }
     Ok(())
 }
@@ -168,11 +94,16 @@ fn endures<S: Source, T: Tried>(
 /// Calls with W low from every BP of the part with SRWD set, the latch set or not.
 fn endure<S: Source, T: Tried>(part: usize, rules: Rules) -> Result<Count, String> {
     let mut seeds = Rng::new(8);
-    let mut count = Count { answers: [0; 64], cut: 0 };
+    let mut count = Count { answers: Answers::none(), cut: 0 };
     for bp in 0..=PARTS[part].highest_bp {
         for latch in [false, true] {
             let start = Record { bp, latch, srwd: true, ..Record::standby(part as u8) };
-            endures::<S, T>(start, seeds.draw(), rules, &mut count)?;
+            endures::<S, T>(start, seeds.draw(), rules, with_w_low, |made| {
+                count.answers.count(&made);
+                let lost = matches!(made.step.call, Call::Loss { .. }) && made.seen.answer() == 0;
+                count.cut += u64::from(lost && made.before.cycle().is_some());
+                kept(start, &made)
+            })?;
         }
     }
     Ok(count)
@@ -182,10 +113,7 @@ fn endure<S: Source, T: Tried>(part: usize, rules: Rules) -> Result<Count, Strin
 fn library_keeps<S: Source>(part: usize, numbers: &[usize]) {
     let count = endure::<S, Pair>(part, PAPER).unwrap_or_else(|e| panic!("{e}"));
     assert!(count.cut >= 100, "part {part}: power was lost in {} cycles only", count.cut);
-    for number in numbers {
-        let times = count.answers[*number];
-        assert!(times >= 20, "part {part}: answer {number} came {times} times only");
-    }
+    count.answers.often(part, numbers);
 }
 
 #[test]
@@ -215,8 +143,7 @@ fn chips_that_give_way_are_seen() {
         "losses::Afterwards(losses::settings_are_reset)",
     ];
     for name in give_way {
-        let fault = faults::CHIP.iter().find(|fault| fault.0 == name).expect("a fault so named");
-        let rules = Rules { chip: fault.1, ..PAPER };
+        let rules = Rules { chip: faults::named_so(name), ..PAPER };
         let seen = SMALL.iter().any(|part| endure::<Generator, Modelled>(*part, rules).is_err());
         assert!(seen, "{name} was not seen");
     }

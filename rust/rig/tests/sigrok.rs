@@ -65,6 +65,7 @@ fn transactions(part: usize, now: Record, rng: &mut Rng) -> Vec<Sent> {
         (vec![0x06], 0, true),
         (vec![0x05, 0], 0, true),
         (vec![0xAB, 0, 0, 0, 0, 0], 1, true),
+        (vec![0xE8, 0, 0, 0, 0, 0], 3, true),
     ];
     let mut generator = Generator::new(part, rng.draw());
     while all.len() < 20 {
@@ -137,10 +138,11 @@ fn compare(name: &str, start: &Chip, all: &[Sent], mode: SpiMode, half: usize) {
 
 /// Records in which the chip takes everything, only a status read, or only a release.
 fn records(part: u8) -> Vec<Record> {
-    let standby = Record { bp: 1, srwd: true, ..Record::standby(part) };
+    let lock = if PARTS[part as usize].locks { 3 } else { 0 };
+    let standby = Record { bp: 1, srwd: true, locks: [lock; 8], ..Record::standby(part) };
     let busy = standby.busy(7, Cycle::BulkErase);
     let deep = Record { mode: Mode::Deep, ..standby };
-    if PARTS[part as usize].signature.is_some() {
+    if PARTS[part as usize].deep {
         vec![standby, busy, deep]
     } else {
         vec![standby, busy]

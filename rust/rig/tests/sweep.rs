@@ -1,5 +1,5 @@
 //! libm25p.a against the model on whole ranges: every first byte in every state, every length, every byte over
-//! every byte, every start in a page, and every sector under every BP.
+//! every byte, every start in a page, and every sector under every BP. What only the M25PE40 does is in `m25pe40.rs`.
 
 #[path = "support/sweep.rs"]
 mod swept;
@@ -22,9 +22,17 @@ fn states(part: u8) -> Vec<Record> {
         standby.busy(2, Cycle::Settings { bp: highest, srwd: true }),
         protected.busy(1_000_000, Cycle::Program { address: 1_000, slots: [0xA5; 256] }),
     ];
-    if PARTS[part as usize].signature.is_some() {
+    if PARTS[part as usize].deep {
         states.push(Record { mode: Mode::Deep, ..standby });
         states.push(Record { mode: Mode::Deep, latch: false, srwd: true, ..standby });
+    }
+    if PARTS[part as usize].locks {
+        let slots = [0x5A; 256];
+        let locked = Record { locks: [1, 2, 3, 0, 1, 2, 3, 0], ..standby };
+        states.push(locked);
+        states.push(Record { srwd: true, locks: [2; 8], ..standby });
+        states.push(locked.busy(3, Cycle::PageWrite { address: 1_000, slots, named: 100 }));
+        states.push(Record { mode: Mode::Deep, ..locked });
     }
     states
 }
@@ -122,8 +130,8 @@ fn every_start_in_a_page() {
 
 #[test]
 fn every_sector_under_every_bp() {
-    // the sums of the paper's columns: 4, 4, 8, 64, 64 and 4 sectors
-    let protected_in_all = [7, 7, 39, 127, 127, 7];
+    // the sums of the paper's columns: 4, 4, 8, 64, 64, 4 and 8 sectors
+    let protected_in_all = [7, 7, 39, 127, 127, 7, 39];
     for part in 0..PARTS.len() as u8 {
         let mut sweep = Sweep::new(part);
         let figures = &PARTS[part as usize];

@@ -183,6 +183,13 @@ fn trace_equals_model() {
     same_answers("M25P10-A", Part::M25p10a, &old, &new);
 }
 
+#[test]
+fn trace_of_the_m25pe40_equals_model() {
+    let bytes = Part::M25pe40.bytes();
+    let (old, new) = (Rng::new(16).bytes(bytes), Rng::new(17).bytes(bytes));
+    same_answers("M25PE40", Part::M25pe40, &old, &new);
+}
+
 /// The older one is found by its signature, and written byte by byte, a thousand bytes.
 #[test]
 fn trace_of_the_older_equals_model() {

@@ -141,6 +141,11 @@ fn m25p128() {
     life("M25P128", full);
 }
 
+#[test]
+fn m25pe40() {
+    life("M25PE40", full);
+}
+
 /// The whole array is protected, and flashrom unlocks it, writes, and restores BP and SRWD.
 #[test]
 fn unlocks_and_restores() {
@@ -206,6 +211,74 @@ fn deep_power_down_hides() {
     bench.end(&contents);
 }
 
+/// The M25PE40 has another release: not the one of a probe, which reads a signature with it. AB alone wakes it.
+#[test]
+fn deep_power_down_hides_the_m25pe40() {
+    let contents = sparse(Part::M25pe40.bytes(), 16);
+    let Some(bench) = Bench::new("deep", "M25PE40", &contents, &[]) else { return };
+    bench.server.client().operate(&[0xB9], 0);
+    for words in [&[][..], &[], &["-c", "M25PE40"]] {
+        assert!(!bench.flashrom.run(words, None).0, "hidden, {words:?}");
+    }
+    bench.server.client().operate(&[0xAB], 0);
+    bench.flashrom.succeed(&[], None);
+    bench.end(&contents);
+}
+
+/// Writes the lock register of the sector at this address.
+fn lock(bench: &Bench, address: [u8; 3], value: u8) {
+    let mut client = bench.server.client();
+    client.operate(&[0x06], 0);
+    client.operate(&[&[0xE5], &address[..], &[value]].concat(), 0);
+}
+
+/// Pages in the sectors 1, 3 and 5 are to change, and sector 3 is locked: flashrom, which knows of no lock, tries its
+/// three ways to erase and gives up, with what comes before it written. Opened again, the sector is written; frozen, it
+/// is not until the server has ended, which is the power.
+#[test]
+fn locked_sector_fails_the_write() {
+    let (part, bytes) = ("M25PE40", Part::M25pe40.bytes());
+    let old = full(bytes, 17);
+    let pages = [0x1_0000, 0x3_8000, 0x5_0000].map(|at| at..at + 256);
+    let mut contents = old.clone();
+    pages.iter().for_each(|page| contents[page.clone()].iter_mut().for_each(|byte| *byte ^= 0xFF));
+    let mut before_it = old.clone();
+    before_it[pages[0].clone()].copy_from_slice(&contents[pages[0].clone()]);
+    let Some(bench) = Bench::new("locked", part, &old, &[]) else { return };
+    let fails = |bench: &Bench| {
+        let (fine, said) = bench.flashrom.write(part, &contents);
+        assert!(!fine && said.contains("No usable erase functions left."), "{said}");
+        assert_eq!(said.matches("ERASE FAILED!").count(), 3, "{said}");
+        assert!(bench.read(part) == before_it, "the locked sector stays, and what comes behind it");
+    };
+    lock(&bench, [0x03, 0x12, 0x34], 0x01);
+    fails(&bench);
+    assert_eq!(bench.server.client().operate(&[0xE8, 0x03, 0xFF, 0xFF], 2), [0x01, 0x01]);
+    lock(&bench, [0x03, 0x00, 0x00], 0x03);
+    lock(&bench, [0x03, 0x00, 0x00], 0x00);
+    fails(&bench);
+    bench.end(&before_it);
+    let Some(bench) = Bench::new("locked", part, &before_it, &[]) else { return };
+    lock(&bench, [0x03, 0x00, 0x00], 0x01);
+    lock(&bench, [0x03, 0x00, 0x00], 0x00);
+    let (fine, said) = bench.flashrom.write(part, &contents);
+    assert!(fine && said.contains("VERIFIED."), "{said}");
+    bench.end(&contents);
+}
+
+/// A blank chip needs no erase, so that only the verification notices the locked sector; all others are written.
+#[test]
+fn locked_blank_sector_fails_the_verification() {
+    let (part, bytes) = ("M25PE40", Part::M25pe40.bytes());
+    let Some(bench) = Bench::new("locked_blank", part, &vec![0xFF; bytes], &[]) else { return };
+    lock(&bench, [0x03, 0x12, 0x34], 0x03);
+    let mut contents = full(bytes, 18);
+    let (fine, said) = bench.flashrom.write(part, &contents);
+    assert!(!fine && said.contains("Verifying flash... FAILED at 0x00030000!"), "{said}");
+    contents[0x3_0000..0x4_0000].fill(0xFF);
+    bench.end(&contents);
+}
+
 /// One that is found by its signature is not hidden: the probe's RES wakes it.
 #[test]
 fn deep_power_down_does_not_hide_the_older() {
@@ -222,7 +295,7 @@ fn deep_power_down_does_not_hide_the_older() {
 /// write fails. All other pages are written, and a second write puts this one right.
 #[test]
 fn cut_program_fails_the_verification() {
-    for part in ["M25P10-A", "M25P40", "M25P128"] {
+    for part in ["M25P10-A", "M25P40", "M25P128", "M25PE40"] {
         let bytes = named(part).bytes();
         let (contents, options) = (full(bytes, 11), ["--cut-after", "3", "--seed", "5"]);
         let Some(bench) = Bench::new("cut_program", part, &vec![0xFF; bytes], &options) else {
@@ -248,15 +321,21 @@ fn cut_program_fails_the_verification() {
 /// Power is lost in the first erase of a write: flashrom looks at what it erased, says so, and erases once more.
 #[test]
 fn cut_erase_is_seen_and_repeated() {
-    let (part, bytes) = ("M25P40", Part::M25p40.bytes());
-    let (old, contents) = (full(bytes, 12), full(bytes, 13));
-    let Some(bench) = Bench::new("cut_erase", part, &old, &["--cut-after", "1"]) else { return };
-    let (fine, said) = bench.flashrom.write(part, &contents);
-    assert!(said.contains("ERASE FAILED!"), "{said}");
-    assert!(fine && said.contains("VERIFIED."), "{said}");
-    let told = "Power was lost in cycle 1, a sector erase (D8) at 000000, and is back; \
-                --cut-after 1 --seed 1 repeats it.\n";
-    bench.end_having_told(&contents, told);
+    for (part, erase) in [("M25P40", "a sector erase (D8)"), ("M25PE40", "a subsector erase (20)")]
+    {
+        let bytes = named(part).bytes();
+        let (old, contents) = (full(bytes, 12), full(bytes, 13));
+        let Some(bench) = Bench::new("cut_erase", part, &old, &["--cut-after", "1"]) else {
+            return;
+        };
+        let (fine, said) = bench.flashrom.write(part, &contents);
+        assert!(said.contains("ERASE FAILED!"), "{said}");
+        assert!(fine && said.contains("VERIFIED."), "{said}");
+        let told = format!(
+            "Power was lost in cycle 1, {erase} at 000000, and is back; --cut-after 1 --seed 1 repeats it.\n"
+        );
+        bench.end_having_told(&contents, &told);
+    }
 }
 
 /// Power is lost as flashrom unlocks the chip, and by the seed the status write is absent: the whole array stays.

@@ -130,7 +130,7 @@ fn refusals_are_one_sentence() {
     let (file, mut samples) = probed("refused.bin");
     let good = file.to_str().unwrap();
     refused(&["M25P64", good], "There is no part M25P64;");
-    refused(&["6", good], "There is no part 6;");
+    refused(&["7", good], "There is no part 7;");
     let missing = absent("missing.bin");
     refused(&["0", missing.to_str().unwrap()], "cannot be read: No such file");
     refused(&["0", good, "--durations", "1,2,3"], "1,2,3 is not four durations");
@@ -175,7 +175,7 @@ fn further_refusals() {
 #[test]
 fn parts_by_number_and_by_name_in_any_case() {
     let (file, _) = probed("names.bin");
-    let names = ["bench", "M25P10-A", "M25P40", "M25P32", "M25P128", "M25P10-A-older"];
+    let names = ["bench", "M25P10-A", "M25P40", "M25P32", "M25P128", "M25P10-A-older", "M25PE40"];
     for (number, name) in names.into_iter().enumerate() {
         for word in [&number.to_string(), name, &name.to_lowercase(), &name.to_uppercase()] {
             let run = pins(&[word, file.to_str().unwrap()]);

@@ -15,7 +15,7 @@ fn drawn(seed: u32) -> (Vec<u8>, bool) {
     (rng.bytes(256), rng.one_in(2))
 }
 
-/// A board of the M25P10-A, all 5A, whose power is lost in this cycle; what it tells.
+/// A board of the part, all 5A, whose power is lost in this cycle; what it tells.
 fn board(options: &Options, cycle: u32, seed: u32) -> (Board, Told) {
     let (mut board, told) = (Board::new(options), Told::default());
     board.fill(&vec![0x5A; options.part.bytes()]);
@@ -75,6 +75,51 @@ fn programs_and_erases() {
         board.delay(1_000_000);
         assert!(board.array()[..0x8000].iter().all(|byte| *byte == 0xFF));
         assert_eq!((status(&mut board), told.text()), (0x00, line(1, seed, what)), "once");
+    }
+}
+
+/// The cycles of the M25PE40: its erases over their area, and a page write over the bytes that it names alone. Lock
+/// registers are open afterwards.
+#[test]
+fn page_writes_and_small_erases() {
+    let (seed, options) = (4, Options::of(Part::M25pe40));
+    let mask = drawn(seed).0;
+    for (sent, what, reached) in [
+        (
+            &[0x0A, 0xFE, 0x12, 0xFE, 0x00, 0x0F, 0xF0][..],
+            "a page write (0A) of 3 bytes at 0612FE",
+            &[0x612FE..0x61300, 0x61200..0x61201][..],
+        ),
+        (
+            &[0x0A, 0x00, 0x00, 0x00, 0x00],
+            "a page write (0A) of 1 byte at 000000",
+            &[0x00..0x01, 0x00..0x01],
+        ),
+        (
+            &[0xDB, 0x00, 0x81, 0x23],
+            "a page erase (DB) at 008123",
+            &[0x8100..0x8200, 0x8100..0x8200],
+        ),
+        (
+            &[0x20, 0x00, 0x81, 0x23],
+            "a subsector erase (20) at 008123",
+            &[0x8000..0x9000, 0x8000..0x9000],
+        ),
+    ] {
+        let (mut board, told) = board(&options, 1, seed);
+        start(&mut board, &[0xE5, 0x07, 0x00, 0x00, 0x03]);
+        assert_eq!((told.text(), status(&mut board)), (String::new(), 0x00), "no cycle");
+        start(&mut board, sent);
+        assert_eq!((status(&mut board), told.text()), (0x00, line(1, seed, what)));
+        for (at, byte) in board.array().iter().enumerate() {
+            let cut = reached.iter().any(|area| area.contains(&at));
+            assert_eq!(
+                *byte,
+                if cut { 0x5A | mask[at % 256] } else { 0x5A },
+                "{what}, byte {at:06X}"
+            );
+        }
+        assert_eq!(board.operate(vec![0xE8, 0x07, 0x00, 0x00], 1), Some(vec![0x00]));
     }
 }
 

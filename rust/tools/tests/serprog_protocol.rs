@@ -191,7 +191,7 @@ fn cut_at_any_byte() {
 
 #[test]
 fn settings_at_start() {
-    for ((_, part), bp) in PARTS.into_iter().zip([3, 7, 5, 1, 2]) {
+    for ((_, part), bp) in PARTS.into_iter().zip([3, 7, 5, 1, 2, 6]) {
         for w_high in [false, true] {
             let options = Options { bp, srwd: true, w_high, ..Options::of(part) };
             assert_eq!(status(&mut Board::new(&options)), 0x80 | bp << 2);
@@ -277,9 +277,12 @@ fn options() {
 fn refused_options() {
     let part = "--part M25P10-A";
     for (line, sentence) in [
-        ("", "--part is missing: M25P10-A, M25P40, M25P32, M25P128 or M25P10."),
+        ("", "--part is missing: M25P10-A, M25P40, M25P32, M25P128, M25P10 or M25PE40."),
         ("--part", "--part has no value."),
-        ("--part M25P05", "--part is M25P10-A, M25P40, M25P32, M25P128 or M25P10, not M25P05."),
+        (
+            "--part M25P05",
+            "--part is M25P10-A, M25P40, M25P32, M25P128, M25P10 or M25PE40, not M25P05.",
+        ),
         (&format!("{part} {part}"), "--part is given twice."),
         (&format!("{part} --size 3"), "--size is not an option."),
         (&format!("{part} chip.bin"), "chip.bin is not an option."),

@@ -3,6 +3,7 @@
 use std::collections::BTreeMap;
 
 use super::{Call, Mode, Record, Seen, Step};
+use crate::model::Part;
 
 /// What can become of a cycle.
 const WAYS: [&str; 10] = [
@@ -18,8 +19,16 @@ const WAYS: [&str; 10] = [
     "cut with a no",
 ];
 
-/// The kinds by number, from 1 on.
-const KINDS: [&str; 4] = ["program", "sector erase", "bulk erase", "settings"];
+/// The kinds by number, from 1 on; an M25P part has the first four.
+const KINDS: [&str; 7] = [
+    "program",
+    "sector erase",
+    "bulk erase",
+    "settings",
+    "page write",
+    "page erase",
+    "subsector erase",
+];
 
 /// How often each came, by way and kind.
 #[derive(Default)]
@@ -27,10 +36,10 @@ pub struct Ends(BTreeMap<(&'static str, u8), u64>);
 
 impl Ends {
     /// Counts a call that was carried out on a busy record.
-    pub fn count(&mut self, step: &Step, seen: &Seen, lent: Option<&Record>) {
-        let Some(Record { mode: Mode::Busy(left, cycle), .. }) = lent else { return };
+    pub fn count(&mut self, step: &Step, seen: &Seen, lent: &Record) {
+        let Mode::Busy(left, cycle) = lent.mode else { return };
         if seen.answer() == 0 {
-            for way in ways(&step.call, *left) {
+            for way in ways(&step.call, left) {
                 *self.0.entry((way, cycle.kind())).or_default() += 1;
             }
         }
@@ -40,16 +49,16 @@ impl Ends {
         self.0.get(&(way, kind as u8 + 1)).copied().unwrap_or(0)
     }
 
-    /// What came less than so many times.
-    pub fn seldom(&self, times: u64) -> Vec<String> {
-        let all = WAYS.into_iter().flat_map(|way| (0..KINDS.len()).map(move |kind| (way, kind)));
+    /// What came less than so many times, of the part's kinds.
+    pub fn seldom(&self, times: u64, part: &Part) -> Vec<String> {
+        let all = WAYS.into_iter().flat_map(|way| (0..part.kinds()).map(move |kind| (way, kind)));
         let seldom = all.filter(|(way, kind)| self.times(way, *kind) < times);
         seldom.map(|(way, kind)| format!("{} {way}", KINDS[kind])).collect()
     }
 
     pub fn show(&self) -> String {
-        let times = |way| [0, 1, 2, 3].map(|kind| self.times(way, kind).to_string());
-        let ways = WAYS.map(|way| format!("{way} {}", times(way).join(", ")));
+        let times = |way| (0..KINDS.len()).map(move |kind| self.times(way, kind).to_string());
+        let ways = WAYS.map(|way| format!("{way} {}", times(way).collect::<Vec<_>>().join(", ")));
         format!("cycles ({}): {}", KINDS.join(", "), ways.join("; "))
     }
 }

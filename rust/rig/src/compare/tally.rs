@@ -1,6 +1,7 @@
 //! What came up in a comparison, so that a test can see that nothing was left out.
 
 use super::ends::Ends;
+use super::locks::Locks;
 use super::{Call, Seen, Step};
 use crate::model::{full_address, CODES, PP};
 use crate::pins_model::{End, HOLD, NOT_DRIVEN};
@@ -8,7 +9,8 @@ use crate::pins_model::{End, HOLD, NOT_DRIVEN};
 /// Counts by number.
 pub type Counts = [u64; 256];
 
-/// How often each answer came, each instruction was executed, how cycles ended, and what raw pins did.
+/// How often each answer came, each instruction was executed, how cycles ended, what lock registers did, and what raw
+/// pins did.
 pub struct Tally {
     pub calls: u64,
     pub answers: Counts,
@@ -16,6 +18,7 @@ pub struct Tally {
     pub executed: Counts,
     pub programs: Programs,
     pub ends: Ends,
+    pub locks: Locks,
     pub pins: PinsTally,
 }
 
@@ -37,12 +40,13 @@ pub struct Programs {
     pub none_missing: u64,
 }
 
-/// Raw pins: samples and how many of them were driven, the chip's answers to the transactions, and how
-/// these ended.
+/// Raw pins: samples and how many of them were driven, the chip's answers to the transactions, which instructions
+/// were executed, and how the transactions ended.
 pub struct PinsTally {
     pub samples: u64,
     pub driven: u64,
     pub chip: Counts,
+    pub executed: Counts,
     pub carried_out: u64,
     pub thrown_away: u64,
     pub unfinished: u64,
@@ -52,13 +56,21 @@ pub struct PinsTally {
 
 impl Default for Tally {
     fn default() -> Tally {
-        let chip = [0; 256];
+        let (chip, executed) = ([0; 256], [0; 256]);
         let (samples, driven, long_held) = (0, 0, 0);
         let (carried_out, thrown_away, unfinished) = (0, 0, 0);
-        let pins =
-            PinsTally { samples, driven, chip, carried_out, thrown_away, unfinished, long_held };
-        let (programs, ends) = (Programs::default(), Ends::default());
-        Tally { calls: 0, answers: [0; 256], executed: [0; 256], programs, ends, pins }
+        let pins = PinsTally {
+            samples,
+            driven,
+            chip,
+            executed,
+            carried_out,
+            thrown_away,
+            unfinished,
+            long_held,
+        };
+        let (programs, ends, locks) = (Programs::default(), Ends::default(), Locks::default());
+        Tally { calls: 0, answers: [0; 256], executed, programs, ends, locks, pins }
     }
 }
 
@@ -76,7 +88,10 @@ impl Tally {
             }
             Call::Pins { samples } => {
                 self.pins.count(samples, seen, &filled[0]);
-                self.programs.count_run(seen, before);
+                for (sent, missing) in executed(seen) {
+                    self.pins.executed[sent[0] as usize] += 1;
+                    self.programs.count(&sent, missing, before);
+                }
             }
             _ => {}
         }
@@ -84,10 +99,12 @@ impl Tally {
 
     /// All counts in a line.
     pub fn show(&self) -> String {
-        let executed: Vec<String> =
-            CODES.iter().map(|c| format!("{c:02X}: {}", self.executed[*c as usize])).collect();
         let rest = match self.pins.samples {
-            0 => format!("executed {}; {}", executed.join(", "), self.ends.show()),
+            0 => {
+                let (codes, ends, locks) =
+                    (codes(&self.executed), self.ends.show(), self.locks.show());
+                format!("executed {codes}; {ends}; {locks}")
+            }
             _ => self.pins.show(),
         };
         let (calls, answers) = (self.calls, listed(&self.answers));
@@ -116,14 +133,6 @@ impl Programs {
         self.long += u64::from(!short);
         self.all_ff += u64::from(data.iter().all(|byte| *byte == 0xFF));
         self.spared += u64::from(zeros.any(|slot| !reached(slot)));
-    }
-
-    /// Counts the programs that a run executed.
-    fn count_run(&mut self, seen: &Seen, before: &[u8]) {
-        let ended = seen.found.iter().filter(|found| matches!(found.end, End::Risen { .. }));
-        for (found, outcome) in ended.zip(&seen.chip).filter(|(_, outcome)| outcome.answer == 0) {
-            self.count(&found.sent(), outcome.missing, before);
-        }
     }
 
     /// The kinds that came less than so many times.
@@ -177,10 +186,23 @@ impl PinsTally {
         format!(
             "{samples} samples, {driven} of them driven; transactions {carried_out} carried out, \
              {thrown_away} thrown away, {unfinished} unfinished, above 256 bytes and held {long_held}; \
-             the chip's numbers {}",
-            listed(&self.chip)
+             the chip's numbers {}; executed {}",
+            listed(&self.chip),
+            codes(&self.executed)
         )
     }
+}
+
+/// The transactions that a run executed, with their bits missing.
+fn executed(seen: &Seen) -> impl Iterator<Item = (Vec<u8>, u32)> + '_ {
+    let ended = seen.found.iter().filter(|found| matches!(found.end, End::Risen { .. }));
+    let executed = ended.zip(&seen.chip).filter(|(_, outcome)| outcome.answer == 0);
+    executed.map(|(found, outcome)| (found.sent(), outcome.missing))
+}
+
+/// How often each instruction came.
+fn codes(counts: &Counts) -> String {
+    CODES.map(|code| format!("{code:02X}: {}", counts[code as usize])).join(", ")
 }
 
 fn listed(counts: &Counts) -> String {

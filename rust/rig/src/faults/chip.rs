@@ -27,7 +27,16 @@ impl Model for RunOnPage {
 }
 
 /// A transaction of the paper, and then something more.
-pub struct Afterwards(pub fn(&Outcome, &mut [u8], Transaction, &mut [u8]));
+pub struct Afterwards(pub fn(After));
+
+/// A transaction that was answered, and what it was lent.
+pub struct After<'a> {
+    pub answer: u8,
+    pub record: &'a mut [u8],
+    pub array: &'a mut [u8],
+    pub t: Transaction<'a>,
+    pub response: &'a mut [u8],
+}
 
 impl Model for Afterwards {
     fn transact(
@@ -38,34 +47,82 @@ impl Model for Afterwards {
         response: &mut [u8],
     ) -> Outcome {
         let outcome = Paper.transact(record, array, t, response);
-        self.0(&outcome, record, t, response);
+        self.0(After { answer: outcome.answer, record, array, t, response });
         outcome
     }
 }
 
+impl After<'_> {
+    /// The cycle that was started, if it was executed and starts one.
+    fn started(&self) -> Option<Cycle> {
+        match (self.answer, self.t.sent) {
+            (0, [code, ..]) if needs_latch(*code) => Record::unpack(self.record)?.cycle(),
+            _ => None,
+        }
+    }
+}
+
 /// An ignored instruction resets the latch.
-pub fn latch_lost_when_ignored(outcome: &Outcome, record: &mut [u8], _: Transaction, _: &mut [u8]) {
-    if outcome.answer > 8 {
-        amend(record, |r| r.latch = false);
+pub fn latch_lost_when_ignored(after: After) {
+    if after.answer > 8 {
+        amend(after.record, |r| r.latch = false);
     }
 }
 
 /// The response is filled with FF behind n, too.
-pub fn response_beyond_n(outcome: &Outcome, _: &mut [u8], t: Transaction, response: &mut [u8]) {
-    if outcome.answer == 0 || outcome.answer > 8 {
-        response[t.sent.len()..].fill(0xFF);
+pub fn response_beyond_n(after: After) {
+    if after.answer == 0 || after.answer > 8 {
+        after.response[after.t.sent.len()..].fill(0xFF);
     }
 }
 
 /// A refusal of the host side fills the response with FF.
-pub fn refusal_writes_response(
-    outcome: &Outcome,
-    _: &mut [u8],
-    _: Transaction,
-    response: &mut [u8],
-) {
-    if (1..=8).contains(&outcome.answer) {
-        response.fill(0xFF);
+pub fn refusal_writes_response(after: After) {
+    if (1..=8).contains(&after.answer) {
+        after.response.fill(0xFF);
+    }
+}
+
+/// The array changes as the cycle starts.
+pub fn array_at_the_start(after: After) {
+    if let Some(cycle) = after.started() {
+        let mut settings = Record::unpack(after.record).expect("a sound record");
+        Paper.complete(&mut settings, after.array, &cycle);
+    }
+}
+
+/// The packing has no slots.
+pub fn slots_not_packed(after: After) {
+    if after.started().is_some() {
+        after.record[CYCLE_AT..][SLOTS_AT..NAMED_AT].fill(0);
+    }
+}
+
+/// Every cycle remembers settings, the old ones where it has no new.
+pub fn settings_remembered(after: After) {
+    if after.started().is_some() && after.t.sent[0] != WRSR {
+        after.record.copy_within(1..3, CYCLE_AT + 1);
+    }
+}
+
+/// A program names its bytes, too.
+pub fn program_names(after: After) {
+    if let Some(Cycle::Program { .. }) = after.started() {
+        let named = (after.t.sent.len() - 4).min(PAGE) as u32;
+        after.record[CYCLE_AT..LOCKS_AT][NAMED_AT..].copy_from_slice(&named.to_le_bytes());
+    }
+}
+
+/// A page write of what is there already is no cycle.
+pub fn equal_bytes_at_once(after: After) {
+    if let Some(cycle @ Cycle::PageWrite { .. }) = after.started() {
+        let mut written = after.array.to_vec();
+        amend(after.record, |r| {
+            Paper.complete(r, &mut written, &cycle);
+            if written == after.array {
+                *r = r.rested();
+            }
+        });
     }
 }
 
@@ -156,7 +213,7 @@ pub struct AddressNotReduced;
 impl Model for AddressNotReduced {
     fn protected(&self, r: &Record, t: Transaction) -> bool {
         match t.sent[0] {
-            PP | SE => in_protected_sector(r, full_address(t.sent)),
+            PP | SE => r.protects(full_address(t.sent)),
             _ => Paper.protected(r, t),
         }
     }
@@ -237,18 +294,18 @@ impl Model for DeepResetsLatch {
 }
 
 /// The chip's numbers are looked at in another order.
-pub struct LooksInOrder(pub [u8; 8]);
+pub struct LooksInOrder(pub [u8; 9]);
 
 impl Model for LooksInOrder {
-    fn chip_numbers(&self) -> [u8; 8] {
+    fn chip_numbers(&self) -> [u8; 9] {
         self.0
     }
 }
 
-/// Delivery looks at the durations before the array's length.
-pub struct DurationBeforeLength;
+/// A delivery of the paper, and then something more: with the bytes before, and the durations.
+pub struct Delivery(pub fn(&mut Outcome, &[u8], &mut [u8], [u32; 4]));
 
-impl Model for DurationBeforeLength {
+impl Model for Delivery {
     fn deliver(
         &self,
         record: &mut [u8],
@@ -256,10 +313,23 @@ impl Model for DurationBeforeLength {
         array: &mut [u8],
         durations: [u32; 4],
     ) -> Outcome {
-        let outcome = Paper.deliver(record, part, array, durations);
-        if outcome.answer == 2 && !durations.into_iter().all(is_duration) {
-            return Outcome::only(7);
-        }
+        let before = record.to_vec();
+        let mut outcome = Paper.deliver(record, part, array, durations);
+        self.0(&mut outcome, &before, record, durations);
         outcome
+    }
+}
+
+/// It looks at the durations before the array's length.
+pub fn duration_before_length(outcome: &mut Outcome, _: &[u8], _: &mut [u8], durations: [u32; 4]) {
+    if outcome.answer == 2 && !durations.into_iter().all(is_duration) {
+        *outcome = Outcome::only(7);
+    }
+}
+
+/// It keeps the lock registers of the bytes before.
+pub fn locks_delivered(outcome: &mut Outcome, before: &[u8], record: &mut [u8], _: [u32; 4]) {
+    if outcome.answer == 0 {
+        record[LOCKS_AT..].copy_from_slice(&before[LOCKS_AT..]);
     }
 }

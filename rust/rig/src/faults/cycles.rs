@@ -3,72 +3,6 @@
 use super::amend;
 use crate::model::*;
 
-/// The cycle that a transaction has started, if it was executed and starts one.
-fn started(outcome: &Outcome, record: &[u8], t: Transaction) -> Option<Cycle> {
-    match (outcome.answer, t.sent) {
-        (0, [WRSR | PP | SE | BE, ..]) => Record::unpack(record)?.cycle(),
-        _ => None,
-    }
-}
-
-/// The array changes as the cycle starts.
-pub struct ArrayAtTheStart;
-
-impl Model for ArrayAtTheStart {
-    fn transact(
-        &self,
-        record: &mut [u8],
-        array: &mut [u8],
-        t: Transaction,
-        response: &mut [u8],
-    ) -> Outcome {
-        let outcome = Paper.transact(record, array, t, response);
-        if let Some(cycle) = started(&outcome, record, t) {
-            let mut settings = Record::unpack(record).expect("a sound record");
-            Paper.complete(&mut settings, array, &cycle);
-        }
-        outcome
-    }
-}
-
-/// The packing has no slots.
-pub struct SlotsNotPacked;
-
-impl Model for SlotsNotPacked {
-    fn transact(
-        &self,
-        record: &mut [u8],
-        array: &mut [u8],
-        t: Transaction,
-        response: &mut [u8],
-    ) -> Outcome {
-        let outcome = Paper.transact(record, array, t, response);
-        if started(&outcome, record, t).is_some() {
-            record[CYCLE_AT + 8..].fill(0);
-        }
-        outcome
-    }
-}
-
-/// Every cycle remembers settings, the old ones where it has no new.
-pub struct SettingsAlwaysRemembered;
-
-impl Model for SettingsAlwaysRemembered {
-    fn transact(
-        &self,
-        record: &mut [u8],
-        array: &mut [u8],
-        t: Transaction,
-        response: &mut [u8],
-    ) -> Outcome {
-        let outcome = Paper.transact(record, array, t, response);
-        if started(&outcome, record, t).is_some() && t.sent[0] != WRSR {
-            record.copy_within(1..3, CYCLE_AT + 1);
-        }
-        outcome
-    }
-}
-
 /// The new settings show while busy.
 pub struct SettingsAtTheStart;
 
@@ -124,13 +58,24 @@ pub fn address_as_sent(_: &Record, sent: &[u8], cycle: &mut Cycle) {
     }
 }
 
-/// Slots of 00 where no data went.
+/// Slots of 00 where no data of a program went.
 pub fn empty_slots(r: &Record, sent: &[u8], cycle: &mut Cycle) {
     if let Cycle::Program { slots, .. } = cycle {
-        let (start, data) = (address(r.figures(), sent), &sent[4..]);
-        let unreached = |slot: &usize| Paper.wanted(start, data, *slot).is_none();
-        (0..PAGE).filter(unreached).for_each(|slot| slots[slot] = 0x00);
+        empty(r, sent, slots);
     }
+}
+
+/// Slots of 00 where no data of a page write went.
+pub fn empty_slots_written(r: &Record, sent: &[u8], cycle: &mut Cycle) {
+    if let Cycle::PageWrite { slots, .. } = cycle {
+        empty(r, sent, slots);
+    }
+}
+
+fn empty(r: &Record, sent: &[u8], slots: &mut [u8; PAGE]) {
+    let (start, data) = (address(r.figures(), sent), &sent[4..]);
+    let unreached = |slot: &usize| Paper.wanted(start, data, *slot).is_none();
+    (0..PAGE).filter(unreached).for_each(|slot| slots[slot] = 0x00);
 }
 
 /// Waiting just the ticks left does not end the cycle.
@@ -181,16 +126,21 @@ impl Model for WaitForgetsTheSettings {
     }
 }
 
+/// Whether the place of a cycle is protected now.
+pub fn in_a_protected_place(r: &Record, cycle: &Cycle) -> bool {
+    match cycle.address() {
+        Some(address) => r.protects(address),
+        None => *cycle == Cycle::BulkErase && r.protects_any(),
+    }
+}
+
 /// Protection is asked once more as a cycle ends.
 pub struct ProtectedAtTheEnd;
 
 impl Model for ProtectedAtTheEnd {
     fn complete(&self, r: &mut Record, array: &mut [u8], cycle: &Cycle) {
-        match *cycle {
-            Cycle::Program { address, .. } | Cycle::SectorErase { address }
-                if in_protected_sector(r, address) => {}
-            Cycle::BulkErase if r.bp > 0 => {}
-            _ => Paper.complete(r, array, cycle),
+        if !in_a_protected_place(r, cycle) {
+            Paper.complete(r, array, cycle);
         }
     }
 }

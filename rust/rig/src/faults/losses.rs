@@ -36,7 +36,7 @@ pub fn program_of_the_mask(cycle: &Cycle, old: u8, at: usize, mask: &[u8]) -> u8
     }
 }
 
-/// A cut erase leaves the mask.
+/// A cut erase of the M25P parts leaves the mask.
 pub fn erase_leaves_the_mask(cycle: &Cycle, old: u8, at: usize, mask: &[u8]) -> u8 {
     match cycle {
         Cycle::SectorErase { .. } | Cycle::BulkErase => mask[at % PAGE],
@@ -44,10 +44,44 @@ pub fn erase_leaves_the_mask(cycle: &Cycle, old: u8, at: usize, mask: &[u8]) -> 
     }
 }
 
-/// A cut erase is absent.
+/// A cut erase of the M25P parts is absent.
 pub fn erase_is_absent(cycle: &Cycle, old: u8, at: usize, mask: &[u8]) -> u8 {
     match cycle {
         Cycle::SectorErase { .. } | Cycle::BulkErase => old,
+        _ => Paper.cut_short(cycle, old, at, mask),
+    }
+}
+
+/// A cut erase of a page or a subsector is complete.
+pub fn small_erase_completes(cycle: &Cycle, old: u8, at: usize, mask: &[u8]) -> u8 {
+    match cycle {
+        Cycle::PageErase { .. } | Cycle::SubsectorErase { .. } => 0xFF,
+        _ => Paper.cut_short(cycle, old, at, mask),
+    }
+}
+
+/// A cut page write acts on the whole page.
+pub fn named_forgotten(cycle: &Cycle, old: u8, at: usize, mask: &[u8]) -> u8 {
+    match cycle {
+        Cycle::PageWrite { .. } => old | mask[at % PAGE],
+        _ => Paper.cut_short(cycle, old, at, mask),
+    }
+}
+
+/// A cut page write is complete.
+pub fn page_write_completes(cycle: &Cycle, old: u8, at: usize, mask: &[u8]) -> u8 {
+    match cycle {
+        Cycle::PageWrite { .. } => Paper.completed(cycle, old, at),
+        _ => Paper.cut_short(cycle, old, at, mask),
+    }
+}
+
+/// A cut page write has cleared bits, as a cut program has.
+pub fn page_write_programs(cycle: &Cycle, old: u8, at: usize, mask: &[u8]) -> u8 {
+    match *cycle {
+        Cycle::PageWrite { address, slots, .. } => {
+            Paper.cut_short(&Cycle::Program { address, slots }, old, at, mask)
+        }
         _ => Paper.cut_short(cycle, old, at, mask),
     }
 }
@@ -60,10 +94,7 @@ pub fn mask_at_the_index(cycle: &Cycle, old: u8, at: usize, mask: &[u8]) -> u8 {
 
 /// The mask is taken from the address on.
 pub fn mask_from_the_address(cycle: &Cycle, old: u8, at: usize, mask: &[u8]) -> u8 {
-    let from = match *cycle {
-        Cycle::Program { address, .. } | Cycle::SectorErase { address } => address,
-        _ => 0,
-    };
+    let from = cycle.address().unwrap_or(0);
     Paper.cut_short(cycle, old, at, &[mask[(at + PAGE - from % PAGE) % PAGE]; PAGE])
 }
 
@@ -88,7 +119,19 @@ impl Model for Afterwards {
 
 /// The bytes of the cycle stay.
 pub fn cycle_stays(before: &Record, _: bool, record: &mut [u8]) {
-    record[CYCLE_AT..].copy_from_slice(&before.pack()[CYCLE_AT..]);
+    record[CYCLE_AT..LOCKS_AT].copy_from_slice(&before.pack()[CYCLE_AT..LOCKS_AT]);
+}
+
+/// The lock registers stay.
+pub fn locks_stay(before: &Record, _: bool, record: &mut [u8]) {
+    record[LOCKS_AT..].copy_from_slice(&before.locks);
+}
+
+/// The lock registers stay unless a cycle is cut.
+pub fn locks_stay_at_rest(before: &Record, _: bool, record: &mut [u8]) {
+    if before.cycle().is_none() {
+        record[LOCKS_AT..].copy_from_slice(&before.locks);
+    }
 }
 
 /// A busy record stays busy.

@@ -18,12 +18,26 @@ impl Generator {
             sector_erase: self.duration(),
             bulk_erase: self.duration(),
             write_status: self.duration(),
+            locks: self.locks_of(part),
         };
         match self.rng.below(5) {
             0 => self.in_cycle(standby),
-            1 if PARTS[part].signature.is_some() => Record { mode: Mode::Deep, ..standby },
+            1 if PARTS[part].deep => Record { mode: Mode::Deep, ..standby },
             _ => standby,
         }
+    }
+
+    /// Lock registers of the part: none set, one, or any.
+    fn locks_of(&mut self, part: usize) -> [u8; LOCKS] {
+        let mut locks = [0; LOCKS];
+        match self.rng.below(4) {
+            _ if !PARTS[part].locks => {}
+            0 => locks[self.rng.below(LOCKS)] = 1 + self.rng.below(3) as u8,
+            1 => locks.fill_with(|| self.rng.byte() & 3),
+            2 => locks.fill_with(|| self.rng.byte() & LOCK_DOWN),
+            _ => {}
+        }
+        locks
     }
 
     /// The same record in a cycle, which may be one that it would not start, and at any tick.
@@ -40,6 +54,15 @@ impl Generator {
         let near = (self.spot + self.rng.below(600)) % figures.bytes;
         let address = self.rng.pick(&[0, figures.bytes - 1, anywhere, near, near]);
         let seldom = Self::large(part) && !self.rng.one_in(10);
+        if figures.locks && self.rng.one_in(2) {
+            let named = 1 + self.rng.below(PAGE);
+            let named = self.rng.pick(&[1, 2, PAGE - 1, PAGE, named, named]);
+            return match self.rng.below(4) {
+                0 => Cycle::PageErase { address },
+                1 => Cycle::SubsectorErase { address },
+                _ => Cycle::PageWrite { address, slots: self.slots(), named },
+            };
+        }
         match self.rng.below(8) {
             0 | 1 if !seldom => Cycle::BulkErase,
             0..=3 => Cycle::SectorErase { address },
@@ -68,11 +91,17 @@ impl Generator {
     pub(super) fn damaged(&mut self, now: &Record) -> Packed {
         let mut bytes = now.pack();
         let anywhere = self.rng.below(RECORD_BYTES);
-        let ahead = self.rng.below(CYCLE_AT + 8);
-        let at = self.rng.pick(&[ahead, ahead, anywhere]);
+        let ahead = self.rng.below(CYCLE_AT + SLOTS_AT);
+        let behind = CYCLE_AT + NAMED_AT + self.rng.below(4 + LOCKS);
+        let at = self.rng.pick(&[ahead, ahead, anywhere, behind]);
         let wrong = [0, 1, 0x8000_0000, 1_000_000, 1_000_001, 0x0100_0001, u32::MAX];
-        match self.rng.below(12) {
+        match self.rng.below(14) {
             0 => return self.sound_record_of_any().pack(),
+            // one of another part, said to be of this
+            8 | 9 => {
+                bytes = self.sound_record_of_any().pack();
+                bytes[0] = now.part;
+            }
             1 => self.rng.fill(&mut bytes),
             2 => bytes[at] ^= 1 << self.rng.below(8),
             3 => bytes[at] = self.rng.byte(),
@@ -93,26 +122,33 @@ impl Generator {
         bytes
     }
 
-    /// A packed record with one field of its cycle changed; it may be one that is in no cycle.
+    /// A packed record with one field of its cycle changed, or a lock register; it may be one that is in no cycle.
     fn damaged_cycle(&mut self, now: &Record) -> Packed {
         let from = if self.rng.one_in(4) { *now } else { self.in_cycle(*now) };
         let mut bytes = from.pack();
-        let size = now.figures().bytes as u32;
+        let cycle = &mut bytes[CYCLE_AT..LOCKS_AT];
         let anywhere = self.rng.below(PAGE);
-        let slot = CYCLE_AT + 8 + self.rng.pick(&[0, PAGE - 1, anywhere]);
-        match self.rng.below(8) {
-            0 | 1 => bytes[CYCLE_AT] = self.rng.pick(&[0, 1, 2, 3, 4, 5, 6, 128, 255]),
-            2 => bytes[CYCLE_AT + 1] = self.rng.pick(&[1, 2, 3, 4, 7, 8, 9, 128, 255]),
-            3 => bytes[CYCLE_AT + 2] = self.rng.pick(&[1, 2, 3, 128, 255]),
-            4 => bytes[CYCLE_AT + 3] = self.rng.pick(&[1, 128, 255]),
+        let slot = SLOTS_AT + self.rng.pick(&[0, PAGE - 1, anywhere]);
+        match self.rng.below(11) {
+            0 | 1 => cycle[0] = self.rng.pick(&[0, 1, 2, 3, 4, 5, 6, 7, 8, 9, 128, 255]),
+            2 => cycle[1] = self.rng.pick(&[1, 2, 3, 4, 7, 8, 9, 128, 255]),
+            3 => cycle[2] = self.rng.pick(&[1, 2, 3, 128, 255]),
+            4 => cycle[3] = self.rng.pick(&[1, 128, 255]),
             5 => {
-                let random = self.rng.draw() as u32;
+                let (size, random) = (now.figures().bytes as u32, self.rng.draw() as u32);
                 let wide = [1, size - 1, size, size + 256, 1 << 24, 1 << 31, u32::MAX, random];
-                let address = self.rng.pick(&wide).to_le_bytes();
-                bytes[CYCLE_AT + 4..CYCLE_AT + 8].copy_from_slice(&address);
+                cycle[4..SLOTS_AT].copy_from_slice(&self.rng.pick(&wide).to_le_bytes());
             }
-            6 => bytes[slot] = self.rng.pick(&[1, 128, 255]),
-            _ => bytes[CYCLE_AT + 8..].fill(self.rng.pick(&[0x00, 0xFF])),
+            6 => cycle[slot] = self.rng.pick(&[1, 128, 255]),
+            7 => cycle[SLOTS_AT..NAMED_AT].fill(self.rng.pick(&[0x00, 0xFF])),
+            8 | 9 => {
+                let wide = [0, 0, 1, 255, 256, 257, 512, 0x0001_0001, 1 << 24, u32::MAX];
+                cycle[NAMED_AT..].copy_from_slice(&self.rng.pick(&wide).to_le_bytes());
+            }
+            _ => {
+                let lock = LOCKS_AT + self.rng.below(LOCKS);
+                bytes[lock] = self.rng.pick(&[1, 2, 3, 4, 5, 7, 8, 128, 255]);
+            }
         }
         bytes
     }

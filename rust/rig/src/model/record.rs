@@ -1,13 +1,22 @@
-//! The device record: soundness, status byte, and the 292 packed bytes.
+//! The device record: soundness, status byte, lock registers, and the 304 packed bytes.
 
 use super::cycle::{Cycle, CYCLE_BYTES};
 use super::part::{Part, PARTS};
+use super::transaction::Outcome;
 
 /// Where the packed cycle begins.
 pub const CYCLE_AT: usize = 28;
 
+/// How many lock registers there are, one for each sector of the M25PE40, and where they begin.
+pub const LOCKS: usize = 8;
+pub const LOCKS_AT: usize = CYCLE_AT + CYCLE_BYTES;
+
+/// The bits of a lock register.
+pub const WRITE_LOCK: u8 = 0x01;
+pub const LOCK_DOWN: u8 = 0x02;
+
 /// The length of a packed record.
-pub const RECORD_BYTES: usize = CYCLE_AT + CYCLE_BYTES;
+pub const RECORD_BYTES: usize = LOCKS_AT + LOCKS;
 
 /// A packed record.
 pub type Packed = [u8; RECORD_BYTES];
@@ -31,6 +40,8 @@ pub struct Record {
     pub sector_erase: u32,
     pub bulk_erase: u32,
     pub write_status: u32,
+    /// By sector; zero on a part that has none.
+    pub locks: [u8; 8],
 }
 
 /// The limits of a duration, and of the ticks left.
@@ -60,7 +71,14 @@ impl Record {
             sector_erase: 5,
             bulk_erase: 9,
             write_status: 2,
+            locks: [0; LOCKS],
         }
+    }
+
+    /// The same with these durations.
+    pub fn lasting(self, durations: [u32; 4]) -> Record {
+        let [program, sector_erase, bulk_erase, write_status] = durations;
+        Record { program, sector_erase, bulk_erase, write_status, ..self }
     }
 
     /// The figures of this record's part.
@@ -70,9 +88,10 @@ impl Record {
 
     pub fn sound(&self) -> bool {
         let durations = [self.program, self.sector_erase, self.bulk_erase, self.write_status];
-        self.part <= 5
+        self.part <= 6
             && self.bp <= self.figures().highest_bp
             && durations.into_iter().all(is_duration)
+            && self.locks.into_iter().all(|lock| lock <= if self.figures().locks { 3 } else { 0 })
             && match self.mode {
                 Mode::Standby => true,
                 Mode::Busy(left, cycle) => {
@@ -93,6 +112,28 @@ impl Record {
         Record { mode: Mode::Standby, latch: false, ..self }
     }
 
+    /// The same with every lock register reset.
+    pub fn unlocked(self) -> Record {
+        Record { locks: [0; LOCKS], ..self }
+    }
+
+    /// The lock register of the sector in which an address lies; 0 where there is none.
+    pub fn lock(&self, address: usize) -> u8 {
+        self.locks.get(address / self.figures().sector_bytes).copied().unwrap_or(0)
+    }
+
+    /// Whether the address lies in a sector that BP or its lock register protects.
+    pub fn protects(&self, address: usize) -> bool {
+        let part = self.figures();
+        let open = part.sectors - part.protected[self.bp as usize];
+        address / part.sector_bytes >= open || self.lock(address) & WRITE_LOCK != 0
+    }
+
+    /// Whether any sector is protected.
+    pub fn protects_any(&self) -> bool {
+        self.bp > 0 || self.locks.iter().any(|lock| lock & WRITE_LOCK != 0)
+    }
+
     /// The cycle that is running, if one is.
     pub fn cycle(&self) -> Option<Cycle> {
         match self.mode {
@@ -104,8 +145,9 @@ impl Record {
     /// How long a cycle takes that starts now.
     pub fn duration(&self, cycle: &Cycle) -> u32 {
         match cycle {
-            Cycle::Program { .. } => self.program,
-            Cycle::SectorErase { .. } => self.sector_erase,
+            Cycle::Program { .. } | Cycle::PageWrite { .. } => self.program,
+            Cycle::PageErase { .. } => self.program,
+            Cycle::SectorErase { .. } | Cycle::SubsectorErase { .. } => self.sector_erase,
             Cycle::BulkErase => self.bulk_erase,
             Cycle::Settings { .. } => self.write_status,
         }
@@ -133,7 +175,8 @@ impl Record {
         bytes[16..20].copy_from_slice(&self.sector_erase.to_le_bytes());
         bytes[20..24].copy_from_slice(&self.bulk_erase.to_le_bytes());
         bytes[24..28].copy_from_slice(&self.write_status.to_le_bytes());
-        bytes[CYCLE_AT..].copy_from_slice(&cycle);
+        bytes[CYCLE_AT..LOCKS_AT].copy_from_slice(&cycle);
+        bytes[LOCKS_AT..].copy_from_slice(&self.locks);
         bytes
     }
 
@@ -141,7 +184,7 @@ impl Record {
     pub fn unpack(bytes: &[u8]) -> Option<Record> {
         let mode = match bytes[4] {
             0 => Mode::Standby,
-            1 => Mode::Busy(number(bytes, 8), Cycle::unpack(&bytes[CYCLE_AT..])?),
+            1 => Mode::Busy(number(bytes, 8), Cycle::unpack(&bytes[CYCLE_AT..LOCKS_AT])?),
             2 => Mode::Deep,
             _ => return None,
         };
@@ -155,7 +198,24 @@ impl Record {
             sector_erase: number(bytes, 16),
             bulk_erase: number(bytes, 20),
             write_status: number(bytes, 24),
+            locks: bytes[LOCKS_AT..].try_into().ok()?,
         };
         (record.sound() && record.pack()[..] == *bytes).then_some(record)
+    }
+}
+
+/// Changes a packed record that is accepted, or gives the number that it is refused with.
+pub fn changed(
+    accepted: Result<Record, u8>,
+    record: &mut [u8],
+    change: impl FnOnce(&mut Record),
+) -> Outcome {
+    match accepted {
+        Ok(mut r) => {
+            change(&mut r);
+            record.copy_from_slice(&r.pack());
+            Outcome::only(0)
+        }
+        Err(number) => Outcome::only(number),
     }
 }

@@ -2,6 +2,7 @@
 //! numbers of an answer.
 
 use super::part::Part;
+use super::record::Record;
 
 pub const WREN: u8 = 0x06;
 pub const WRDI: u8 = 0x04;
@@ -15,9 +16,15 @@ pub const SE: u8 = 0xD8;
 pub const BE: u8 = 0xC7;
 pub const DP: u8 = 0xB9;
 pub const RES: u8 = 0xAB;
+pub const PW: u8 = 0x0A;
+pub const PE: u8 = 0xDB;
+pub const SSE: u8 = 0x20;
+pub const WRLR: u8 = 0xE5;
+pub const RDLR: u8 = 0xE8;
 
-/// The twelve instruction codes.
-pub const CODES: [u8; 12] = [WREN, WRDI, RDID, RDSR, WRSR, READ, FAST_READ, PP, SE, BE, DP, RES];
+/// The twelve instruction codes of the M25P parts, and the five that only the M25PE40 has.
+pub const CODES: [u8; 17] =
+    [WREN, WRDI, RDID, RDSR, WRSR, READ, FAST_READ, PP, SE, BE, DP, RES, PW, PE, SSE, WRLR, RDLR];
 
 /// What is sent: the whole bytes, the further pulses, and W (low for 0, else high).
 #[derive(Clone, Copy)]
@@ -49,17 +56,39 @@ impl Outcome {
     }
 }
 
+/// A lent record, or the number of the host side behind 8, 6 and 2: 3, 4, 5.
+pub fn accepted(lent: Result<Record, u8>, t: Transaction, response: &[u8]) -> Result<Record, u8> {
+    let r = lent?;
+    if t.sent.len() > 65_536 {
+        return Err(3);
+    }
+    if t.pulses > 7 {
+        return Err(4);
+    }
+    if response.len() < t.sent.len() {
+        return Err(5);
+    }
+    Ok(r)
+}
+
 /// Whether n and the further pulses are as the instruction needs.
-pub fn as_needed(code: u8, n: usize, pulses: u32) -> bool {
+pub fn as_needed(part: &Part, code: u8, n: usize, pulses: u32) -> bool {
     match code {
         WREN | WRDI | BE | DP => n == 1 && pulses == 0,
+        RES if part.locks => n == 1 && pulses == 0,
         WRSR => n == 2 && pulses == 0,
-        SE => n == 4 && pulses == 0,
-        PP => n >= 5 && pulses == 0,
-        READ => n >= 4,
+        SE | PE | SSE => n == 4 && pulses == 0,
+        WRLR => n == 5 && pulses == 0,
+        PP | PW => n >= 5 && pulses == 0,
+        READ | RDLR => n >= 4,
         FAST_READ => n >= 5,
         _ => n >= 1,
     }
+}
+
+/// Whether the instruction needs the write enable latch.
+pub fn needs_latch(code: u8) -> bool {
+    matches!(code, WRSR | PP | SE | BE | PW | PE | SSE | WRLR)
 }
 
 /// Bytes 1 to 3, high byte first.

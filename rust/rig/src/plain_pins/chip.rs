@@ -1,5 +1,7 @@
 //! The chip behind the plain pins: takes bits, shows bits, and carries transactions out.
 
+use std::ops::Range;
+
 use super::Listener;
 use crate::model::*;
 use crate::pins_model::{MOST_BYTES, NOT_DRIVEN};
@@ -52,6 +54,7 @@ impl Chip<'_> {
             FAST_READ if n >= 5 => Some(self.read()),
             RDID => part.identification.map(|three| three.get(n - 1).copied().unwrap_or(0)),
             RES if n >= 4 => part.signature,
+            RDLR if n >= 4 && part.locks => Some(self.record.locks[self.sector()]),
             _ => None,
         }
     }
@@ -65,22 +68,47 @@ impl Chip<'_> {
         byte
     }
 
+    fn sector(&self) -> usize {
+        self.address / self.record.figures().sector_bytes
+    }
+
     fn open_sector(&self) -> bool {
         let part = self.record.figures();
         let open = part.sectors - part.protected[self.record.bp as usize];
-        self.address / part.sector_bytes < open
+        self.sector() < open
+            && self.record.locks.get(self.sector()).is_none_or(|lock| lock & 1 == 0)
+    }
+
+    /// The page of the address, and its slots with the data in them.
+    fn page(&self) -> (&[u8], [u8; PAGE], Range<usize>) {
+        let page = &self.array[self.address / PAGE * PAGE..][..PAGE];
+        let last = self.sent.len().saturating_sub(PAGE).max(4)..self.sent.len();
+        let mut slots = [0xFF; PAGE];
+        for k in last.clone() {
+            slots[(self.address + k - 4) % PAGE] = self.sent[k];
+        }
+        (page, slots, last)
     }
 
     fn program(&mut self) {
-        let page = &self.array[self.address / PAGE * PAGE..][..PAGE];
-        let from = self.sent.len().saturating_sub(PAGE).max(4);
-        let mut slots = [0xFF; PAGE];
-        for (k, byte) in self.sent.iter().enumerate().skip(from) {
-            let slot = (self.address + k - 4) % PAGE;
-            self.missing += (byte & !page[slot]).count_ones();
-            slots[slot] = *byte;
-        }
+        let (page, slots, last) = self.page();
+        let at = |k: usize| (self.address + k - 4) % PAGE;
+        let missing = last.map(|k| (self.sent[k] & !page[at(k)]).count_ones()).sum::<u32>();
+        self.missing += missing;
         self.start(Cycle::Program { address: self.address, slots });
+    }
+
+    fn write_page(&mut self) {
+        let (_, slots, last) = self.page();
+        self.start(Cycle::PageWrite { address: self.address, slots, named: last.len() });
+    }
+
+    fn write_lock(&mut self) {
+        let sector = self.sector();
+        if self.record.locks[sector] & 2 == 0 {
+            self.record.locks[sector] = self.sent[4] & 3;
+            self.record.latch = false;
+        }
     }
 
     fn write_status(&mut self) {
@@ -97,7 +125,7 @@ impl Chip<'_> {
     fn change(&mut self, w: bool) {
         let r = self.record;
         let [code, ..] = self.sent[..] else { return };
-        let sleeps = r.figures().signature.is_some();
+        let part = r.figures();
         match r.mode {
             Mode::Standby => {}
             Mode::Deep if code == RES => {}
@@ -106,14 +134,26 @@ impl Chip<'_> {
         match (code, self.sent.len(), self.bits) {
             (WREN, 1, 0) => self.record.latch = true,
             (WRDI, 1, 0) => self.record.latch = false,
-            (DP, 1, 0) if sleeps => self.record.mode = Mode::Deep,
-            (RES, _, _) if sleeps => self.record.mode = Mode::Standby,
+            (DP, 1, 0) if part.deep => self.record.mode = Mode::Deep,
+            (RES, 1, 0) if part.deep => self.record.mode = Mode::Standby,
+            (RES, _, _) if part.deep && !part.locks => self.record.mode = Mode::Standby,
             (WRSR, 2, 0) if r.latch && (w || !r.srwd) => self.write_status(),
-            (PP, 5.., 0) if r.latch && self.open_sector() => self.program(),
-            (SE, 4, 0) if r.latch && self.open_sector() => {
-                self.start(Cycle::SectorErase { address: self.address });
-            }
-            (BE, 1, 0) if r.latch && r.bp == 0 => self.start(Cycle::BulkErase),
+            (WRLR, 5, 0) if r.latch && part.locks => self.write_lock(),
+            (BE, 1, 0) if r.latch && !r.protects_any() => self.start(Cycle::BulkErase),
+            (_, 4.., 0) if r.latch && self.open_sector() => self.change_sector(code),
+            _ => {}
+        }
+    }
+
+    /// What a program, write or erase starts in an open sector.
+    fn change_sector(&mut self, code: u8) {
+        let (address, locks) = (self.address, self.record.figures().locks);
+        match (code, self.sent.len()) {
+            (PP, 5..) => self.program(),
+            (PW, 5..) if locks => self.write_page(),
+            (SE, 4) => self.start(Cycle::SectorErase { address }),
+            (PE, 4) if locks => self.start(Cycle::PageErase { address }),
+            (SSE, 4) if locks => self.start(Cycle::SubsectorErase { address }),
             _ => {}
         }
     }

@@ -35,8 +35,8 @@ impl Sweep {
         array_len: usize,
     ) -> Seen {
         let filled = match &call {
-            Call::Transact { sent, .. } => {
-                let (bytes, len) = (self.rng.bytes(sent.len() + SPARE), sent.len());
+            Call::Transact { sent: given, .. } | Call::Pins { samples: given } => {
+                let (bytes, len) = (self.rng.bytes(given.len() + SPARE), given.len());
                 vec![Filled { bytes, len }]
             }
             _ => vec![],

@@ -1,4 +1,4 @@
-//! An M25P chip for flashrom: speaks serprog on a loopback port until SIGINT or SIGTERM.
+//! An M25P or M25PE chip for flashrom: speaks serprog on a loopback port until SIGINT or SIGTERM.
 
 use std::io::{stderr, stdout, Write};
 use std::process::ExitCode;

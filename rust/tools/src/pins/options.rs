@@ -9,14 +9,15 @@ pub const USAGE: &str = "\
 Usage: pins PART FILE [--output OUT] [--vcd OUT.vcd [--pulled-up]] [--durations P,S,B,W]
 
 PART         a number or a name, in any case: 0 bench, 1 M25P10-A, 2 M25P40, 3 M25P32, 4 M25P128,
-             5 M25P10-A-older (without Read Identification)
+             5 M25P10-A-older (without Read Identification), 6 M25PE40
 FILE         one byte for each sample: bit 0 Chip Select, 1 clock, 2 data in, 3 W, 4 Hold
 --output     writes one byte for each sample: the output after it, 0 or 1, or 2 for not driven
 --vcd        writes the five pins and the output for GTKWave or PulseView
 --pulled-up  writes an output that is not driven as 1 into the dump, as a pull-up resistor makes
              it, and not as z: PulseView and sigrok take z for 0, so that an ignored READ decodes
              as 00 and not as FF
---durations  ticks of a program, sector erase, bulk erase and status write; 3,5,9,2 if not given
+--durations  ticks of a program (and page write, page erase), sector erase (and subsector erase),
+             bulk erase and status write; 3,5,9,2 if not given
 
 The part is as delivered. A result that is there already is replaced.";
 

@@ -50,6 +50,12 @@ fn described(cycle: Cycle, yes: bool) -> String {
         Cycle::Program { address } => format!("a page program (02) at {address:06X}"),
         Cycle::SectorErase { address } => format!("a sector erase (D8) at {address:06X}"),
         Cycle::BulkErase => "a bulk erase (C7)".to_string(),
+        Cycle::PageWrite { address, named } => {
+            let bytes = if named == 1 { "byte" } else { "bytes" };
+            format!("a page write (0A) of {named} {bytes} at {address:06X}")
+        }
+        Cycle::PageErase { address } => format!("a page erase (DB) at {address:06X}"),
+        Cycle::SubsectorErase { address } => format!("a subsector erase (20) at {address:06X}"),
         Cycle::StatusWrite { bp, srwd } => {
             let (status, end) =
                 (u8::from(srwd) << 7 | bp << 2, if yes { "complete" } else { "absent" });

@@ -7,19 +7,20 @@ use m25p::{Durations, Part};
 
 /// The parts that flashrom knows, by its names. Its M25P10 is found by the signature alone, as the older
 /// M25P10-A is.
-pub const PARTS: [(&str, Part); 5] = [
+pub const PARTS: [(&str, Part); 6] = [
     ("M25P10-A", Part::M25p10a),
     ("M25P40", Part::M25p40),
     ("M25P32", Part::M25p32),
     ("M25P128", Part::M25p128),
     ("M25P10", Part::M25p10aOlder),
+    ("M25PE40", Part::M25pe40),
 ];
 
 pub const USAGE: &str = "\
-serprog --part NAME [option]...   an M25P chip for flashrom, on a loopback port
+serprog --part NAME [option]...   an M25P or M25PE chip for flashrom, on a loopback port
 
-  --part NAME        M25P10-A, M25P40, M25P32, M25P128 or M25P10, in capitals or small letters;
-                     M25P10 is the older M25P10-A, without Read Identification
+  --part NAME        M25P10-A, M25P40, M25P32, M25P128, M25P10 or M25PE40, in capitals or small
+                     letters; M25P10 is the older M25P10-A, without Read Identification
   --image FILE       the contents: a raw file of the part's size, read at start and written back
                      when a client lets the pins go, when it has hung up, and at the end (SIGINT
                      or SIGTERM); one server has it at a time
@@ -28,17 +29,17 @@ serprog --part NAME [option]...   an M25P chip for flashrom, on a loopback port
   --bp N             block protection at start; 0
   --srwd 0|1         status register write disable at start; 0
   --tick-us N        the length of a tick in microseconds; 1000
-  --program N        ticks of a page program; 2
-  --sector-erase N   ticks of a sector erase; 1000
+  --program N        ticks of a page program, a page write or a page erase; 2
+  --sector-erase N   ticks of a sector erase or a subsector erase; 1000
   --bulk-erase N     ticks of a bulk erase; 10000
   --write-status N   ticks of a status write; 5
   --trace            print each transaction, wait and power loss as a line, with its answer, and
                      with the bits missing where an executed program wants bits 1 that are 0
   --warn-missing     say on standard error that an erase was missing: once, at the first such
                      program, with its page's address in hexadecimal and the bits missing
-  --cut-after N      lose power in the N-th cycle (program, erase or status write) that a client
-                     starts, 1 to 1000000000, and have it back at once; a line on standard error
-                     tells of it
+  --cut-after N      lose power in the N-th cycle (program, page write, erase or status write)
+                     that a client starts, 1 to 1000000000, and have it back at once; a line on
+                     standard error tells of it
   --seed S           what that loss leaves of the cycle, 0 to 4294967295; 1. With --cut-after only
 ";
 
