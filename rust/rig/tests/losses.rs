@@ -1,6 +1,5 @@
 //! Cycles and power losses, libm25p.a against the model on whole ranges: a cut at every tick, every byte that a cut can
-//! leave, every place of the parts, every byte of a packed cycle and each lock register damaged, and wrong lengths in
-//! every mode.
+//! leave, every place of the parts, every byte of a packed record damaged, and wrong lengths in every mode.
 
 #[path = "support/sweep.rs"]
 mod swept;
@@ -193,15 +192,15 @@ fn refused(sweep: &mut Sweep, record: [u8; RECORD_BYTES]) -> usize {
         .count()
 }
 
-/// Each byte of a packed cycle and each lock register in turn with several values, in every kind, in standby and in deep
-/// power-down, on a part of either highest BP and on the M25PE40: all four calls say the same of it.
+/// Each byte of a packed record in turn with several values, in every kind of cycle, in standby and in deep power-down,
+/// on a part of either highest BP and on the M25PE40: all four calls say the same of it.
 #[test]
-fn every_byte_of_a_cycle_damaged() {
+fn every_byte_damaged() {
     for part in [0, 2, 6] {
         let mut sweep = Sweep::new(part);
         let (mut sound, mut unsound) = (0, 0);
         for record in records(part) {
-            for at in CYCLE_AT..RECORD_BYTES {
+            for at in 0..RECORD_BYTES {
                 for value in [0, 1, 2, 3, 4, 5, 6, 7, 8, 0x10, 0x80, 0xFF] {
                     let mut bytes = record.pack();
                     bytes[at] = value;
