@@ -3,7 +3,6 @@
 
 use std::fs::{self, File};
 use std::io::{BufRead, BufReader, Read};
-use std::os::unix::fs::PermissionsExt;
 use std::os::unix::process::CommandExt;
 use std::path::{Path, PathBuf};
 use std::process::{Child, Command, Output, Stdio};
@@ -46,6 +45,13 @@ fn rt(test: &str) -> Option<PathBuf> {
     found
 }
 
+/// Puts a program in its place, by another process: one that this process had open to write could be open still in a
+/// child of another test as it is started, and would then be busy.
+fn install(from: &Path, to: &Path) {
+    let done = Command::new("install").args(["-m", "755"]).args([from, to]).status().unwrap();
+    assert!(done.success(), "{} was not put in its place", to.display());
+}
+
 impl Place {
     /// As it is after the first run.
     pub fn proved(test: &str) -> Option<Place> {
@@ -67,12 +73,12 @@ impl Place {
             None => root.join("target/bin/bench"),
         };
         assert!(program.is_file(), "There is no {}: run `rt check bench`.", program.display());
-        fs::copy(program, directory.join("target/bin/bench")).unwrap();
-        fs::copy(root.join("bench"), directory.join("bench")).unwrap();
+        install(&program, &directory.join("target/bin/bench"));
+        install(&root.join("bench"), &directory.join("bench"));
         fs::write(directory.join("crates.txt"), "bench:\n").unwrap();
-        let stand_in = directory.join("stand-in/rt");
-        fs::write(&stand_in, STAND_IN).unwrap();
-        fs::set_permissions(&stand_in, fs::Permissions::from_mode(0o755)).unwrap();
+        let text = directory.join("stand-in/text");
+        fs::write(&text, STAND_IN).unwrap();
+        install(&text, &directory.join("stand-in/rt"));
         let path = std::env::var("PATH").unwrap_or_default();
         let path = format!("{}:{path}", directory.join("stand-in").display());
         Some(Place { directory, path, real })
