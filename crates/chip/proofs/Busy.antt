@@ -36,7 +36,7 @@ pub busy-number : (d : Device) (n pulses : ℕ) (w : Bool) (at : ℕ) → isBusy
 unfolding chipNumber
 busy-number d n pulses w at h f =
     rows-ind (λ code r. chipNumber d r n pulses w at ≡ cond (eqb n 0) 11 (cond (not (r .known)) 14 (cond (r .busy) (cond (not (asNeeded r n pulses)) 15 0) 12))) f
-    (rw h) (rw h) (λ e. rw h) (rw (h, awake (d .mode) h)) (rw h) (rw h) (rw h) (rw h) (rw h) (rw h) (λ e. rw h) (λ e. rw h) (λ code. refl)
+    (rw h) (rw h) (λ e. rw h) (rw (h, awake (d .mode) h)) (rw h) (rw h) (rw h) (rw h) (rw h) (rw h) (λ e. rw h) (λ e. rw h) (λ e. rw h) (λ e. rw h) (λ e. rw h) (λ e. rw h) (λ e. rw h) (λ e. rw h) (λ code. refl)
 
 -- with two latches at most one record is sound, so this is said of the chip's rule alone
 pub latch-unread : (d : Device) (l : Bool) (n pulses : ℕ) (w : Bool) (at : ℕ) → isBusy (d .mode) ≡ true → (f : Figures) (code : ℕ)
@@ -48,7 +48,7 @@ latch-unread d l n pulses w at h f code = busy-number (latched d l) n pulses w a
 keeps : (f : Figures) (code : ℕ) → rowOf f code .busy ≡ true → rowOf f code .turn ≡ Keep
 keeps f =
     rows-ind (λ code r. r .busy ≡ true → r .turn ≡ Keep) f
-    no no (λ e. no) (λ b. refl) no no no no no no (λ e. no) (λ e. no) (λ code. no)
+    no no (λ e. no) (λ b. refl) no no no no no no (λ e. no) (λ e. no) (λ e. no) (λ e. no) (λ e. no) (λ e. no) (λ e. no) (λ e. no) (λ code. no)
   where
     no : {A : Type 0} → false ≡ true → A
     no b = absurd (false≢true b)
@@ -68,7 +68,7 @@ unheard : (d : Device) → isBusy (d .mode) ≡ true → (f : Figures) (code : �
 unfolding heard
 unheard d h f =
     rows-ind (λ code r. eqb code 0x05 ≡ false → heard d r ≡ false) f
-    (λ e. rw h) (λ e. rw h) (λ i e. rw h) (λ e. absurd (false≢true (sym e))) (λ e. rw h) (λ e. rw h) (λ e. rw h) (λ e. rw h) (λ e. rw h) (λ e. rw h) (λ i e. rw h) (λ i e. rw h) (λ code e. refl)
+    (λ e. rw h) (λ e. rw h) (λ i e. rw h) (λ e. absurd (false≢true (sym e))) (λ e. rw h) (λ e. rw h) (λ e. rw h) (λ e. rw h) (λ e. rw h) (λ e. rw h) (λ i e. rw h) (λ i e. rw h) (λ i e. rw h) (λ i e. rw h) (λ i e. rw h) (λ i e. rw h) (λ i e. rw h) (λ i e. rw h) (λ code e. refl)
 
 -- in a cycle RDSR drives the status byte, and nothing else drives anything
 pub busy-line : (d : Device) (array before : List ℕ) → isBusy (d .mode) ≡ true → driven d array before ≡ cond (eqb (getD before 0 0) 0x05) (drives (statusByte d)) silent

@@ -20,8 +20,8 @@ use Rattle.device.specs.declared.Mode.the-variants.{Standby, Busy, Deep}
 use Rattle.device.specs.declared.Device.{Device}
 use Rattle.device.specs.Chip.{chip}
 use Rattle.device.specs.Device.{sound, running}
-use Rattle.device.specs.Time.{afterCycle, finished, lost, waitedIn, waited, timeNumber, maskNumber, waitCall, powerUpCall, lossCall}
-use Rattle.device.proofs.Ends.{finished-length, lost-length, waited-length}
+use Rattle.device.specs.Time.{afterCycle, finished, unlocked, poweredUp, lost, waitedIn, waited, timeNumber, maskNumber, waitCall, powerUpCall, lossCall}
+use Rattle.device.proofs.Ends.{powered-length, lost-length, waited-length}
 use Rattle.chip.specs.declared.answers.Verdict.{Verdict}
 use Rattle.chip.specs.declared.answers.Verdict.the-variants.{Refused, Ignored, Executed}
 use Rattle.chip.specs.declared.Answer.{Answer}
@@ -73,7 +73,7 @@ pub after-length : (e : Event) (c : Chip) → length (after e c .array) ≡ leng
 unfolding sent waitCall powerUpCall lossCall
 after-length (sends bytes p w) c = ap length (array-stays (c .device) (c .array) bytes p w (replicate (length bytes) 0))
 after-length (waits t) c = zero-ind (λ (n : Chip). length (n .array) ≡ length (c .array)) (timeNumber (c .device) (length (c .array)) 0) (waited-length c t) refl
-after-length starts c = zero-ind (λ (n : Chip). length (n .array) ≡ length (c .array)) (timeNumber (c .device) (length (c .array)) 0) (finished-length c) refl
+after-length starts c = zero-ind (λ (n : Chip). length (n .array) ≡ length (c .array)) (timeNumber (c .device) (length (c .array)) 0) (powered-length c) refl
 after-length (loses mask told) c = zero-ind (λ (n : Chip). length (n .array) ≡ length (c .array)) (timeNumber (c .device) (length (c .array)) (maskNumber (length mask))) (lost-length c mask told) refl
 
 -- the record keeps its part
@@ -165,16 +165,16 @@ time-alike : (a b : Chip) → Alike a b → (n : ℕ) → timeNumber (a .device)
 time-alike a b k n = rw (k .device, k .long)
 
 pub after-alike : (e : Event) (a b : Chip) → Alike a b → Alike (after e a) (after e b)
-unfolding waitCall powerUpCall lossCall finished lost
+unfolding waitCall powerUpCall lossCall poweredUp finished lost
 after-alike e a b k = record { device = devices e; long = after-length e a ∙ (k .long ∙ sym (after-length e b)) }
   where
     devices : (e : Event) → after e a .device ≡ after e b .device
     devices (sends bytes p w) = sent-alike a b k bytes p w .1
     devices (waits t) = rw (time-alike a b k 0) (zero-devices (timeNumber (b .device) (length (b .array)) 0) (waited a t) (waited b t) a b (waited-alike a b (k .device) t) (k .device))
-    devices starts = rw (time-alike a b k 0) (zero-devices (timeNumber (b .device) (length (b .array)) 0) (finished a) (finished b) a b (ap (λ (d : Device). afterCycle d true) (k .device)) (k .device))
+    devices starts = rw (time-alike a b k 0) (zero-devices (timeNumber (b .device) (length (b .array)) 0) (poweredUp a) (poweredUp b) a b (ap (λ (d : Device). unlocked (afterCycle d true)) (k .device)) (k .device))
     devices (loses mask told) =
         rw (time-alike a b k (maskNumber (length mask)))
-        (zero-devices (timeNumber (b .device) (length (b .array)) (maskNumber (length mask))) (lost a mask told) (lost b mask told) a b (ap (λ (d : Device). afterCycle d told) (k .device)) (k .device))
+        (zero-devices (timeNumber (b .device) (length (b .array)) (maskNumber (length mask))) (lost a mask told) (lost b mask told) a b (ap (λ (d : Device). unlocked (afterCycle d told)) (k .device)) (k .device))
 
 pub reply-alike : (e : Event) (a b : Chip) → Alike a b → Same (reply e a .answer) (reply e b .answer)
 unfolding waitCall powerUpCall lossCall

@@ -46,13 +46,17 @@ tail-is sent from e =
     same (inl h) = let z : from ≡ 4 = omega arith in rw z
     same (inr h) = let z : length sent ≤ from = omega arith in drop-of-length-le sent z ∙ sym (drop-of-length-le sent h)
 
+-- how long it is
+pub tail-length : (sent : List ℕ) (from : ℕ) → from ≡ min 4 (length sent) → length sent - from ≡ length (drop 4 sent)
+tail-length sent from e = simp length-drop (omega arith)
+
 module _ (d : Device) (array sent : List ℕ) where
   -- the code's two steps give the line
-  pub line-is : (resp : List ℕ) {resp₁ : List ℕ} (r : Row) (f : Figures) (status at n start : ℕ) → r ≡ heardRow d sent → f ≡ figuresOf (d .part) → status ≡ statusByte d → at ≡ addressOf f sent
+  pub line-is : (resp : List ℕ) {resp₁ : List ℕ} (r : Row) (f : Figures) (at n start : ℕ) → r ≡ heardRow d sent → f ≡ figuresOf (d .part) → at ≡ addressOf f sent
       → n ≡ min (length sent) (length resp) → start ≡ min (r .from) n → resp₁ ≡ mapAt (window 0 (0 + start) (put 255)) resp
-      → mapAt (window start n (λ i x. onLine (kth (r .drive) f status array at (i - start)))) resp₁ ≡ mapAt (lined d array sent) resp
+      → mapAt (window start n (λ i x. onLine (kth (r .drive) f (statusByte d) (d .locks) array at (i - start)))) resp₁ ≡ mapAt (lined d array sent) resp
   unfolding lined
-  line-is resp {resp₁} r f status at n start er ef et ea en es e =
+  line-is resp {resp₁} r f at n start er ef ea en es e =
       window-more start n (lined d array sent) _ resp front (omega arith) byte ∙ window-rest n (lined d array sent) resp (λ i h lt. let k : length sent ≤ i = omega arith in rw (le-ltb i (length sent) k))
     where
       silent-at : (i x : ℕ) → i < start → 255 ≡ lined d array sent i x
@@ -64,12 +68,12 @@ module _ (d : Device) (array sent : List ℕ) where
       front : resp₁ ≡ mapAt (window 0 start (lined d array sent)) resp
       front = e ∙ (rw zero-add (map-agree _ _ resp (λ i lt. window-ext 0 start (put 255) (lined d array sent) i (getD resp i 0) (λ h k. silent-at i (getD resp i 0) k))))
 
-      byte : (i x : ℕ) → start ≤ i → i < n → onLine (kth (r .drive) f status array at (i - start)) ≡ lined d array sent i x
+      byte : (i x : ℕ) → start ≤ i → i < n → onLine (kth (r .drive) f (statusByte d) (d .locks) array at (i - start)) ≡ lined d array sent i x
       byte i x h l =
           let k : i < length sent = omega arith in
           let s : start ≡ r .from = omega arith in
           let m : r .from ≤ i = omega arith in
-          rw (lt-ltb i (length sent) k, driven-from d array sent i (omega arith) (rw (← er) m), s, ea, er, ef, et)
+          rw (lt-ltb i (length sent) k, driven-from d array sent i (omega arith) (rw (← er) m), s, ea, er, ef)
 
 -- ---- first and count lie within the transaction
 
@@ -159,7 +163,7 @@ one-delivery p q = (same-checked (p .answer ∙ sym (q .answer)) (p .device ∙ 
 -- a part number above 255 is no part's
 pub large : (part array p s b t : ℕ) → 255 < part → deliveryAnswer part array p s b t ≡ 1
 unfolding deliveryAnswer
-large part array p s b t h = let k : 5 < part = omega arith in rw (lt-leb part 5 k)
+large part array p s b t h = let k : 6 < part = omega arith in rw (lt-leb part 6 k)
 
 -- refused: the number, the all-zero record, the array as it was
 pub refused-delivery : (part : ℕ) (array : List ℕ) (p s b t k : ℕ) {r : Checked} → k ≡ deliveryAnswer part (length array) p s b t → (k ≡ 0 → ⊥) → r .answer ≡ k → r .device ≡ zeroRecord

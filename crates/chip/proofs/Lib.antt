@@ -9,7 +9,9 @@ pub mod Events
 pub mod Reading
 pub mod Busy
 pub mod Missed
+pub mod Areas
 pub mod Protection
+pub mod Locked
 pub mod Limits
 pub mod Older
 pub mod Power

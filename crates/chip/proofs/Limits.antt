@@ -10,11 +10,12 @@ use Rattle.slices.specs.Changed.{mapAt}
 use Rattle.memory.specs.Memory.{blank, filled, programmed}
 use Rattle.parts.specs.Parts.{figuresOf}
 use Rattle.parts.specs.Protected.{protectedOf}
-use Rattle.device.specs.Cycles.{noSlots, noCycle, pageCycle, settingsCycle, slotsSound, cycleSound, touched, cut}
-use Rattle.device.specs.Device.{isBusy, sound, moded, latched, settled, remembering, running, started, ended, latchAt}
-use Rattle.device.specs.Time.{afterCycle, finished, lost, waited, timeNumber, waitCall, powerUpCall, lossCall}
+use Rattle.device.specs.Locks.{noLocks, lockOf, locksSound}
+use Rattle.device.specs.Cycles.{noSlots, noCycle, pageCycle, settingsCycle, slotsSound, namedSound, cycleSound, touched, cut}
+use Rattle.device.specs.Device.{isBusy, sound, moded, latched, locked, settled, remembering, running, started, ended, latchAt}
+use Rattle.device.specs.Time.{afterCycle, finished, unlocked, poweredUp, lost, waited, timeNumber, waitCall, powerUpCall, lossCall}
 use Rattle.chip.specs.Table.{rowOf, addressOf}
-use Rattle.chip.specs.Answers.{hostNumber, inProtected, asNeeded, chipNumber, decided, verdictOf}
+use Rattle.chip.specs.Answers.{hostNumber, inProtected, protectedAt, protectedAny, asNeeded, chipNumber, decided, verdictOf}
 use Rattle.chip.specs.Change.{cycleOf, bpIn, turned}
 use Rattle.chip.specs.Outcome.{outcomeOf, transacted}
 use Rattle.chip.specs.Events.{Chip, Event, waits, sent, run}
@@ -32,7 +33,7 @@ unfolding figuresOf
 long = length-replicate {A = ℕ} 4096 0xFF
 
 pub limits : Limits
-unfolding sent transacted mapAt blank filled programmed figuresOf protectedOf waitCall powerUpCall lossCall timeNumber waited finished lost afterCycle sound moded latched settled remembering running started ended latchAt noSlots noCycle pageCycle settingsCycle slotsSound cycleSound rowOf addressOf hostNumber inProtected asNeeded chipNumber decided verdictOf cycleOf touched cut bpIn turned outcomeOf
+unfolding sent transacted mapAt blank filled programmed figuresOf protectedOf waitCall powerUpCall lossCall timeNumber waited finished unlocked poweredUp lost afterCycle sound locksSound noLocks lockOf moded latched locked settled remembering running started ended latchAt noSlots noCycle pageCycle settingsCycle slotsSound namedSound cycleSound rowOf addressOf hostNumber inProtected protectedAt protectedAny asNeeded chipNumber decided verdictOf cycleOf touched cut bpIn turned outcomeOf
 limits = record {
   armed = record { good = record { sound = refl; whole = long }; standby = refl; srwd = refl };
   low = refl;

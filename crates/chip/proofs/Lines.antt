@@ -24,12 +24,12 @@ use Rattle.device.specs.Device.{isBusy, isDeep, statusByte}
 use Rattle.device.specs.declared.cycle.Kind.{Kind}
 use Rattle.chip.specs.declared.table.Turn.{Turn}
 use Rattle.chip.specs.declared.table.Drive.{Drive}
-use Rattle.chip.specs.declared.table.Drive.the-variants.{Nothing, Identification, Status, Array, Signature}
+use Rattle.chip.specs.declared.table.Drive.the-variants.{Nothing, Identification, Status, Array, Signature, Register}
 use Rattle.chip.specs.declared.table.Row.{Row}
 use Rattle.chip.specs.declared.line.Span.{Span}
 use Rattle.chip.specs.declared.answers.Verdict.{Verdict}
 use Rattle.chip.specs.Table.{longest, order, write, unknown, rowOf, addressOf, rowIn, onStart}
-use Rattle.chip.specs.Answers.{hostNumber, guardedIn, asNeeded, chipNumber}
+use Rattle.chip.specs.Answers.{hostNumber, guardedIn, writesLock, asNeeded, chipNumber}
 use Rattle.chip.proofs.Rows.{rows-ind}
 use Rattle.chip.specs.Line.{Driven, silent, drives, onLine, kth, byRow, heard, heardRow, driven, lined, drivingAt, firstFrom, firstOf, countOf, noSpan, fromOn, spanOf}
 use Rattle.chip.specs.Outcome.{Outcome, outcomeOf, transacted}
@@ -37,21 +37,23 @@ use Rattle.chip.proofs.Verdicts.{Host, Decision, refuses, ignores, exec
 
 -- ---- what every row of the table has
 
--- the earliest position: after the code, and for an array byte after the address
+-- the earliest position: after the code, and for an array byte or a lock register after the address
 abbrev pub earliest : Drive → ℕ
 earliest Nothing = 1
 earliest Identification = 1
 earliest Status = 1
 earliest Array = 4
 earliest Signature = 1
+earliest Register = 4
 
--- a row that drives needs no latch, no exact n and no clock without further pulses, starts no cycle, and needs no byte beyond its first driven position
+-- a row that drives needs no latch, no exact n and no clock without further pulses, starts no cycle, writes no lock register, and needs no byte beyond its first driven position
 pub record Reads (r : Row) : Type 0 where
   pub enough : r .least ≤ r .from
   pub unbounded : r .most ≡ longest
   pub pulsed : r .«no_pulses» ≡ false
   pub unlatched : r .latch ≡ false
   pub startless : (by : Kind → Bool) (other : Bool) → onStart (r .turn) by other ≡ other
+  pub lockless : writesLock (r .turn) ≡ false
 
 pub record RowLaws (r : Row) : Type 0 where
   pub coded : 1 ≤ r .from
@@ -71,19 +73,21 @@ unknown-laws = quiet-laws unknown refl (lit≤ tt) (lit≤ tt)
 order-laws : (t : Turn) → RowLaws (order t)
 order-laws t = quiet-laws (order t) refl (lit≤ tt) (lit≤ tt)
 
-write-laws : (n m : ℕ) (k : Kind) → RowLaws (write n m k)
-write-laws n m k = quiet-laws (write n m k) refl (lit≤ tt) (lit≤ tt)
+write-laws : (n m : ℕ) (t : Turn) → RowLaws (write n m t)
+write-laws n m t = quiet-laws (write n m t) refl (lit≤ tt) (lit≤ tt)
 
 pub row-laws : (f : Figures) (code : ℕ) → RowLaws (rowOf f code)
 row-laws f =
     rows-ind (λ code r. RowLaws r) f (order-laws _) (order-laws _)
-    (λ e. reading-laws _ (lit≤ tt) (lit≤ tt) (lit≤ tt) (record { enough = lit≤ tt; unbounded = refl; pulsed = refl; unlatched = refl; startless = λ by other. refl }))
-    (reading-laws _ (lit≤ tt) (lit≤ tt) (lit≤ tt) (record { enough = lit≤ tt; unbounded = refl; pulsed = refl; unlatched = refl; startless = λ by other. refl }))
+    (λ e. reading-laws _ (lit≤ tt) (lit≤ tt) (lit≤ tt) (record { enough = lit≤ tt; unbounded = refl; pulsed = refl; unlatched = refl; startless = λ by other. refl; lockless = refl }))
+    (reading-laws _ (lit≤ tt) (lit≤ tt) (lit≤ tt) (record { enough = lit≤ tt; unbounded = refl; pulsed = refl; unlatched = refl; startless = λ by other. refl; lockless = refl }))
     (write-laws _ _ _)
-    (reading-laws _ (lit≤ tt) (lit≤ tt) (lit≤ tt) (record { enough = lit≤ tt; unbounded = refl; pulsed = refl; unlatched = refl; startless = λ by other. refl }))
-    (reading-laws _ (lit≤ tt) (lit≤ tt) (lit≤ tt) (record { enough = lit≤ tt; unbounded = refl; pulsed = refl; unlatched = refl; startless = λ by other. refl }))
+    (reading-laws _ (lit≤ tt) (lit≤ tt) (lit≤ tt) (record { enough = lit≤ tt; unbounded = refl; pulsed = refl; unlatched = refl; startless = λ by other. refl; lockless = refl }))
+    (reading-laws _ (lit≤ tt) (lit≤ tt) (lit≤ tt) (record { enough = lit≤ tt; unbounded = refl; pulsed = refl; unlatched = refl; startless = λ by other. refl; lockless = refl }))
     (write-laws _ _ _) (write-laws _ _ _) (write-laws _ _ _) (λ e. order-laws _)
-    (λ e. reading-laws _ (lit≤ tt) (lit≤ tt) (lit≤ tt) (record { enough = lit≤ tt; unbounded = refl; pulsed = refl; unlatched = refl; startless = λ by other. refl }))
+    (λ e. reading-laws _ (lit≤ tt) (lit≤ tt) (lit≤ tt) (record { enough = lit≤ tt; unbounded = refl; pulsed = refl; unlatched = refl; startless = λ by other. refl; lockless = refl }))
+    (λ e. quiet-laws _ refl (lit≤ tt) (lit≤ tt)) (λ e. write-laws _ _ _) (λ e. write-laws _ _ _) (λ e. write-laws _ _ _) (λ e. write-laws _ _ _)
+    (λ e. reading-laws _ (lit≤ tt) (lit≤ tt) (lit≤ tt) (record { enough = lit≤ tt; unbounded = refl; pulsed = refl; unlatched = refl; startless = λ by other. refl; lockless = refl }))
     (λ code. unknown-laws)
 
 -- a row that needs the latch, no further pulses or an exact n drives nothing
@@ -111,28 +115,29 @@ module _ (d : Device) (array sent : List ℕ) where
   unfolding addressOf
   same-address f i h = rw (getD-take i sent 1 0 (omega arith), getD-take i sent 2 0 (omega arith), getD-take i sent 3 0 (omega arith))
 
-  same-kth : (dr : Drive) (f : Figures) (s i k : ℕ) → earliest dr ≤ i → kth dr f s array (addressOf f (take i sent)) k ≡ kth dr f s array (addressOf f sent) k
+  same-kth : (dr : Drive) (f : Figures) (s i k : ℕ) → earliest dr ≤ i → kth dr f s (d .locks) array (addressOf f (take i sent)) k ≡ kth dr f s (d .locks) array (addressOf f sent) k
   same-kth Nothing f s i k h = refl
   same-kth Identification f s i k h = refl
   same-kth Status f s i k h = refl
   same-kth Array f s i k h = rw (same-address f i h)
   same-kth Signature f s i k h = refl
+  same-kth Register f s i k h = rw (same-address f i h)
 
   -- from the row's first byte on
   pub driven-from : (i : ℕ) → i ≤ length sent → heardRow d sent .from ≤ i
-      → driven d array (take i sent) ≡ kth (heardRow d sent .drive) (figuresOf (d .part)) (statusByte d) array (addressOf (figuresOf (d .part)) sent) (i - heardRow d sent .from)
+      → driven d array (take i sent) ≡ kth (heardRow d sent .drive) (figuresOf (d .part)) (statusByte d) (d .locks) array (addressOf (figuresOf (d .part)) sent) (i - heardRow d sent .from)
   unfolding driven byRow
   driven-from i le h =
       let r = heardRow d sent in
       let f = figuresOf (d .part) in
       let s = statusByte d in
       let pos : 0 < i = omega (arith, heard-laws d sent .coded) in
-      ap (λ (x : Row). byRow x f s array (take i sent)) (same-row i pos)
-      ∙ (ap (λ (n : ℕ). cond (leb (r .from) n) (kth (r .drive) f s array (addressOf f (take i sent)) (n - r .from)) silent) (length-take-le i sent le)
-      ∙ (ap (λ (b : Bool). cond b (kth (r .drive) f s array (addressOf f (take i sent)) (i - r .from)) silent) (le-leb (r .from) i h)
+      ap (λ (x : Row). byRow x f s (d .locks) array (take i sent)) (same-row i pos)
+      ∙ (ap (λ (n : ℕ). cond (leb (r .from) n) (kth (r .drive) f s (d .locks) array (addressOf f (take i sent)) (n - r .from)) silent) (length-take-le i sent le)
+      ∙ (ap (λ (b : Bool). cond b (kth (r .drive) f s (d .locks) array (addressOf f (take i sent)) (i - r .from)) silent) (le-leb (r .from) i h)
       ∙ same-kth (r .drive) f s i (i - r .from) (omega (arith, heard-laws d sent .late))))
 
-  too-soon : (r : Row) (f : Figures) (s : ℕ) (before : List ℕ) → length before < r .from → byRow r f s array before ≡ silent
+  too-soon : (r : Row) (f : Figures) (s : ℕ) (before : List ℕ) → length before < r .from → byRow r f s (d .locks) array before ≡ silent
   unfolding byRow
   too-soon r f s before h = rw (lt-leb (r .from) (length before) h)
 
@@ -142,7 +147,7 @@ module _ (d : Device) (array sent : List ℕ) where
   driven-before zero le h = too-soon (heardRow d []) (figuresOf (d .part)) (statusByte d) [] (heard-laws d [] .coded)
   driven-before (suc i) le h =
       let l : length (take (suc i) sent) ≡ suc i = length-take-le (suc i) sent le in
-      ap (λ (x : Row). byRow x (figuresOf (d .part)) (statusByte d) array (take (suc i) sent)) (same-row (suc i) (omega arith))
+      ap (λ (x : Row). byRow x (figuresOf (d .part)) (statusByte d) (d .locks) array (take (suc i) sent)) (same-row (suc i) (omega arith))
       ∙ too-soon (heardRow d sent) (figuresOf (d .part)) (statusByte d) (take (suc i) sent) (rw l h)
 
   -- a row that drives nothing
@@ -185,8 +190,8 @@ first-at g k from (x ∷ xs) h l z o = go (eqb k from) refl (λ lt. first-at g (
         rw (eq-eqb (g k) 0 (z k lt)) (ih lt)
 
 -- a driven byte is driven with what stands on the line
-abbrev driveAt : Drive → Figures → ℕ → List ℕ → ℕ → Type 0
-driveAt dr f s array at = (k : ℕ) → kth dr f s array at k ≡ drives (onLine (kth dr f s array at k))
+abbrev driveAt : Drive → Figures → ℕ → List ℕ → List ℕ → ℕ → Type 0
+driveAt dr f s locks array at = (k : ℕ) → kth dr f s locks array at k ≡ drives (onLine (kth dr f s locks array at k))
 
 module _ (d : Device) (array sent : List ℕ) where
   -- nothing is driven
@@ -198,7 +203,7 @@ module _ (d : Device) (array sent : List ℕ) where
   )
 
   -- the row drives from its first position on
-  module _ (on : driveAt (heardRow d sent .drive) (figuresOf (d .part)) (statusByte d) array (addressOf (figuresOf (d .part)) sent)) where
+  module _ (on : driveAt (heardRow d sent .drive) (figuresOf (d .part)) (statusByte d) (d .locks) array (addressOf (figuresOf (d .part)) sent)) where
     loud : (i : ℕ) → i ≤ length sent → heardRow d sent .from ≤ i → driven d array (take i sent) ≡ drives (onLine (driven d array (take i sent)))
     loud i le h =
         let e = driven-from d array sent i le h in
@@ -234,6 +239,7 @@ module _ (d : Device) (array sent : List ℕ) where
   span-is Status e = span-on (λ k. rw e)
   span-is Array e = span-on (λ k. rw e)
   span-is Signature e = span-on (λ k. rw e)
+  span-is Register e = span-on (λ k. rw e)
 
   -- the first driven position is at most 5: after the code, the address and one byte more
   pub first-soon : firstOf d array sent ≤ 5
@@ -248,6 +254,7 @@ module _ (d : Device) (array sent : List ℕ) where
       span-soon Status = from-soon
       span-soon Array = from-soon
       span-soon Signature = from-soon
+      span-soon Register = from-soon
 
 -- ---- the answer, the response and what was driven
 
@@ -270,6 +277,7 @@ reading-taken d r n pulses w at h e lt le =
       e .unlatched,
       e .startless (λ k. guardedIn k (figuresOf (d .part)) d at) false,
       e .startless (λ k. usesOf k .settings) false,
+      e .lockless,
     )
   where
     allowed : (a b : Bool) → not a || b ≡ true → a && not b ≡ false
@@ -319,7 +327,7 @@ module _ (d : Device) (array sent : List ℕ) (i : ℕ) (lt : i < length sent) w
           → Spanned (driven d array (take i sent)) i (firstOf d array sent) (countOf d array sent)
       at-places e h = rw (← e .0, ← e .1) h
 
-      by-span : driveAt (heardRow d sent .drive) (figuresOf (d .part)) (statusByte d) array (addressOf (figuresOf (d .part)) sent) → (b : Bool) → ltb from (length sent) ≡ b
+      by-span : driveAt (heardRow d sent .drive) (figuresOf (d .part)) (statusByte d) (d .locks) array (addressOf (figuresOf (d .part)) sent) → (b : Bool) → ltb from (length sent) ≡ b
           → Spanned (driven d array (take i sent)) i (cond b (record { first = from; count = length sent - from }) noSpan .first) (cond b (record { first = from; count = length sent - from }) noSpan .count)
       by-span on true e =
           let l = ltb-true from (length sent) e in
@@ -338,6 +346,7 @@ module _ (d : Device) (array sent : List ℕ) (i : ℕ) (lt : i < length sent) w
       by-drive Status e = at-places (span-is d array sent Status e) (by-span (λ k. rw e) (ltb from (length sent)) refl)
       by-drive Array e = at-places (span-is d array sent Array e) (by-span (λ k. rw e) (ltb from (length sent)) refl)
       by-drive Signature e = at-places (span-is d array sent Signature e) (by-span (λ k. rw e) (ltb from (length sent)) refl)
+      by-drive Register e = at-places (span-is d array sent Register e) (by-span (λ k. rw e) (ltb from (length sent)) refl)
 
   module _ (pulses : ℕ) (w : Bool) (response : List ℕ) (fine : hostNumber d (length array) (length sent) pulses (length response) ≡ 0) where
     -- the line of every call that is not refused
@@ -374,7 +383,7 @@ module _ (d : Device) (array sent : List ℕ) (i : ℕ) (lt : i < length sent) w
               outside = λ x. (spanned .1 x, on-line ∙ ap onLine (spanned .1 x));
             }
 
-    -- an answer of 11 to 18 means silence at every byte
+    -- an answer of 11 to 19 means silence at every byte
     pub ignored-is-silent : (transacted d array sent pulses w response .answer .number ≡ 0 → ⊥) → driven d array (take i sent) ≡ silent
     unfolding transacted outcomeOf
     ignored-is-silent other = by-verdict (verdict-is d (length array) sent pulses w (length response)) other

@@ -20,7 +20,7 @@ use Rattle.device.specs.Device.{isBusy, moded, remembering, running, started}
 use Rattle.device.specs.Cycles.{pageCycle, touched}
 use Rattle.device.specs.Time.{finished}
 use Rattle.chip.specs.declared.table.Turn.{Turn}
-use Rattle.chip.specs.declared.table.Turn.the-variants.{Keep, Enable, Disable, Start, Sleep, Wake}
+use Rattle.chip.specs.declared.table.Turn.the-variants.{Keep, Enable, Disable, Start, Sleep, Wake, Lock}
 use Rattle.chip.specs.Table.{rowOf, rowIn, addressOf}
 use Rattle.chip.specs.Change.{cycleOf, missingOf, turned}
 use Rattle.chip.specs.Outcome.{Outcome, outcomeOf, transacted}
@@ -34,7 +34,7 @@ none-but-02 : (f : Figures) (at : ℕ) (sent array : List ℕ) (code : ℕ) → 
 unfolding missingOf
 none-but-02 f at sent array =
     rows-ind (λ code r. (code ≡ 0x02 → ⊥) → missingOf (r .turn) at sent array ≡ 0) f
-    (λ h. refl) (λ h. refl) (λ e h. refl) (λ h. refl) (λ h. refl) (λ h. refl) (λ h. refl) (λ h. absurd (h refl)) (λ h. refl) (λ h. refl) (λ e h. refl) (λ e h. refl) (λ code h. refl)
+    (λ h. refl) (λ h. refl) (λ e h. refl) (λ h. refl) (λ h. refl) (λ h. refl) (λ h. refl) (λ h. absurd (h refl)) (λ h. refl) (λ h. refl) (λ e h. refl) (λ e h. refl) (λ e h. refl) (λ e h. refl) (λ e h. refl) (λ e h. refl) (λ e h. refl) (λ e h. refl) (λ code h. refl)
 
 module _ (d : Device) (array bytes : List ℕ) (pulses : ℕ) (w : Bool) (response : List ℕ) where
   abbrev out : Outcome
@@ -94,6 +94,7 @@ module _ (d : Device) (array bytes : List ℕ) (pulses : ℕ) (w : Bool) (respon
       go (Start k) = inr refl
       go Sleep = inl refl
       go Wake = inl refl
+      go Lock = inl refl
 
 -- ---- over a list
 

@@ -18,20 +18,21 @@ use Rattle.device.specs.declared.Mode.the-variants.{Standby, Busy, Deep}
 use Rattle.device.specs.declared.Device.{Device}
 use Rattle.device.specs.declared.Checked.{Checked}
 use Rattle.device.specs.declared.cycle.Kind.{Kind}
-use Rattle.device.specs.declared.cycle.Kind.the-variants.{Idle, Page, Sector, All, Settings}
+use Rattle.device.specs.declared.cycle.Kind.the-variants.{Idle, Page, Sector, All, Settings, PageWrite, PageErase, Subsector}
 use Rattle.device.specs.Chip.{chip}
+use Rattle.device.specs.Locks.{lockOf, relocked, locksSound}
 use Rattle.device.specs.Cycles.{usesOf, cycleSound, touchedIn, touched, cutIn, cut, durationOf}
-use Rattle.device.specs.Device.{sound, statusByte, moded, settled, remembering, running, started, ended, delivered, zeroRecord}
-use Rattle.device.specs.Time.{afterCycle, finished, lost, waitedIn, waited, timeNumber, maskNumber, Timed, timed, waitCall, powerUpCall, lossCall}
+use Rattle.device.specs.Device.{sound, statusByte, moded, settled, remembering, locked, running, started, ended, delivered, zeroRecord}
+use Rattle.device.specs.Time.{afterCycle, finished, unlocked, poweredUp, lost, waitedIn, waited, timeNumber, maskNumber, Timed, timed, waitCall, powerUpCall, lossCall}
 use Rattle.device.specs.Device as record-is
 use Rattle.device.proofs.Outcomes.{same-checked}
 use Rattle.chip.specs.declared.table.Turn.{Turn}
-use Rattle.chip.specs.declared.table.Turn.the-variants.{Keep, Enable, Disable, Start, Sleep, Wake}
+use Rattle.chip.specs.declared.table.Turn.the-variants.{Keep, Enable, Disable, Start, Sleep, Wake, Lock}
 use Rattle.chip.specs.declared.table.Row.{Row}
 use Rattle.chip.specs.declared.answers.Verdict.{Verdict}
 use Rattle.chip.specs.declared.answers.Verdict.the-variants.{Refused, Ignored, Executed}
 use Rattle.chip.specs.Table.{onlyIf, onStart, rowOf, rowIn, addressOf}
-use Rattle.chip.specs.Answers.{deliveryAnswer, hostNumber, inProtected, guardedIn, guarded, chipNumber, decided, verdictOf}
+use Rattle.chip.specs.Answers.{deliveryAnswer, hostNumber, inProtected, protectedAt, protectedAny, guardedIn, guarded, chipNumber, decided, verdictOf}
 use Rattle.chip.specs.Line.{silent, kth, byRow, heard, heardRow, driven, driving, onLine, lined, drivingAt, firstFrom, firstOf, countOf}
 use Rattle.chip.specs.Change.{cycleOf, missingOf, bpIn, turned}
 use Rattle.chip.specs.Outcome.{Outcome, bare, outcomeOf, transacted, Delivered}
@@ -48,47 +49,63 @@ unfolding rowOf
 row-stays f code h = rw h
 
 -- no other row drives the identification
-line-stays : (f : Figures) (code : ℕ) → eqb code 0x9F ≡ false → (s : ℕ) (array : List ℕ) (at k : ℕ)
-    → kth (rowOf f code .drive) (unidentified f) s array at k ≡ kth (rowOf f code .drive) f s array at k
+line-stays : (f : Figures) (code : ℕ) → eqb code 0x9F ≡ false → (s : ℕ) (locks array : List ℕ) (at k : ℕ)
+    → kth (rowOf f code .drive) (unidentified f) s locks array at k ≡ kth (rowOf f code .drive) f s locks array at k
+unfolding lockOf
 line-stays f =
-    rows-ind (λ code r. eqb code 0x9F ≡ false → (s : ℕ) (array : List ℕ) (at k : ℕ) → kth (r .drive) (unidentified f) s array at k ≡ kth (r .drive) f s array at k) f
-    (λ h s array at k. refl)
-    (λ h s array at k. refl)
+    rows-ind (λ code r. eqb code 0x9F ≡ false → (s : ℕ) (locks array : List ℕ) (at k : ℕ) → kth (r .drive) (unidentified f) s locks array at k ≡ kth (r .drive) f s locks array at k) f
+    (λ h s locks array at k. refl)
+    (λ h s locks array at k. refl)
     (λ e h. absurd (false≢true (sym h)))
-    (λ h s array at k. refl)
-    (λ h s array at k. refl)
-    (λ h s array at k. refl)
-    (λ h s array at k. refl)
-    (λ h s array at k. refl)
-    (λ h s array at k. refl)
-    (λ h s array at k. refl)
-    (λ e h s array at k. refl)
-    (λ e h s array at k. refl)
-    (λ code h s array at k. refl)
+    (λ h s locks array at k. refl)
+    (λ h s locks array at k. refl)
+    (λ h s locks array at k. refl)
+    (λ h s locks array at k. refl)
+    (λ h s locks array at k. refl)
+    (λ h s locks array at k. refl)
+    (λ h s locks array at k. refl)
+    (λ e h s locks array at k. refl)
+    (λ e h s locks array at k. refl)
+    (λ e h s locks array at k. refl)
+    (λ e h s locks array at k. refl)
+    (λ e h s locks array at k. refl)
+    (λ e h s locks array at k. refl)
+    (λ e h s locks array at k. refl)
+    (λ e h s locks array at k. refl)
+    (λ code h s locks array at k. refl)
 
 -- each cycle does the same to a byte, completed or cut
-touched-stays : (k : Kind) (f : Figures) (at : ℕ) (slots : List ℕ) (i x : ℕ) → touchedIn k (unidentified f) at slots i x ≡ touchedIn k f at slots i x
-touched-stays Idle f at slots i x = refl
-touched-stays Page f at slots i x = refl
-touched-stays Sector f at slots i x = refl
-touched-stays All f at slots i x = refl
-touched-stays Settings f at slots i x = refl
+touched-stays : (k : Kind) (f : Figures) (at : ℕ) (slots : List ℕ) (n i x : ℕ) → touchedIn k (unidentified f) at slots n i x ≡ touchedIn k f at slots n i x
+touched-stays Idle f at slots n i x = refl
+touched-stays Page f at slots n i x = refl
+touched-stays Sector f at slots n i x = refl
+touched-stays All f at slots n i x = refl
+touched-stays Settings f at slots n i x = refl
+touched-stays PageWrite f at slots n i x = refl
+touched-stays PageErase f at slots n i x = refl
+touched-stays Subsector f at slots n i x = refl
 
-cut-stays : (k : Kind) (f : Figures) (at : ℕ) (slots mask : List ℕ) (i x : ℕ) → cutIn k (unidentified f) at slots mask i x ≡ cutIn k f at slots mask i x
-cut-stays Idle f at slots mask i x = refl
-cut-stays Page f at slots mask i x = refl
-cut-stays Sector f at slots mask i x = refl
-cut-stays All f at slots mask i x = refl
-cut-stays Settings f at slots mask i x = refl
+cut-stays : (k : Kind) (f : Figures) (at : ℕ) (slots : List ℕ) (n : ℕ) (mask : List ℕ) (i x : ℕ) → cutIn k (unidentified f) at slots n mask i x ≡ cutIn k f at slots n mask i x
+cut-stays Idle f at slots n mask i x = refl
+cut-stays Page f at slots n mask i x = refl
+cut-stays Sector f at slots n mask i x = refl
+cut-stays All f at slots n mask i x = refl
+cut-stays Settings f at slots n mask i x = refl
+cut-stays PageWrite f at slots n mask i x = refl
+cut-stays PageErase f at slots n mask i x = refl
+cut-stays Subsector f at slots n mask i x = refl
 
 -- the same guards it, whatever the record's part
 guard-stays : (k : Kind) (f : Figures) (p q : ℕ) (d : Device) (at : ℕ) → guardedIn k (unidentified f) (asPart p d) at ≡ guardedIn k f (asPart q d) at
-unfolding inProtected
+unfolding inProtected protectedAt protectedAny lockOf
 guard-stays Idle f p q d at = refl
 guard-stays Page f p q d at = refl
 guard-stays Sector f p q d at = refl
 guard-stays All f p q d at = refl
 guard-stays Settings f p q d at = refl
+guard-stays PageWrite f p q d at = refl
+guard-stays PageErase f p q d at = refl
+guard-stays Subsector f p q d at = refl
 
 guarded-stays : (t : Turn) (f : Figures) (p q : ℕ) (d : Device) (at : ℕ) → guarded t (unidentified f) (asPart p d) at ≡ guarded t f (asPart q d) at
 guarded-stays t f p q d at = λ j. onStart t (λ k. guard-stays k f p q d at j) false
@@ -101,6 +118,9 @@ cycle-stays Page f at sent = refl
 cycle-stays Sector f at sent = refl
 cycle-stays All f at sent = refl
 cycle-stays Settings f at sent = refl
+cycle-stays PageWrite f at sent = refl
+cycle-stays PageErase f at sent = refl
+cycle-stays Subsector f at sent = refl
 
 duration-stays : (k : Kind) (p q : ℕ) (d : Device) → durationOf k (asPart p d) ≡ durationOf k (asPart q d)
 duration-stays Idle p q d = refl
@@ -108,16 +128,20 @@ duration-stays Page p q d = refl
 duration-stays Sector p q d = refl
 duration-stays All p q d = refl
 duration-stays Settings p q d = refl
+duration-stays PageWrite p q d = refl
+duration-stays PageErase p q d = refl
+duration-stays Subsector p q d = refl
 
 -- the same becomes of the record
 turned-stays : (t : Turn) (f : Figures) (p q : ℕ) (d : Device) (at : ℕ) (sent : List ℕ) → turned t (unidentified f) (asPart p d) at sent ≡ asPart p (turned t f (asPart q d) at sent)
-unfolding turned started running moded remembering record-is.latched
+unfolding turned started running moded remembering locked relocked record-is.latched
 turned-stays Keep f p q d at sent = refl
 turned-stays Enable f p q d at sent = refl
 turned-stays Disable f p q d at sent = refl
 turned-stays (Start k) f p q d at sent = λ j. started (asPart p d) (cycle-stays k f at sent j) (duration-stays k p q d j)
 turned-stays Sleep f p q d at sent = refl
 turned-stays Wake f p q d at sent = refl
+turned-stays Lock f p q d at sent = refl
 
 -- ---- the code
 
@@ -138,7 +162,7 @@ coded-early (suc i) (code ∷ rest) h = not-true (eqb code 0x9F) h
 -- ---- the answer number
 
 number-same : (d : Device) (r : Row) (n pulses : ℕ) (w : Bool) (at : ℕ) → chipNumber (asPart 5 d) r n pulses w at ≡ chipNumber (asPart 1 d) r n pulses w at
-unfolding chipNumber figuresOf
+unfolding chipNumber lockOf figuresOf
 number-same d r n pulses w at = rw (guarded-stays (r .turn) (figuresOf 1) 5 1 d at)
 
 row-same : (d : Device) (before : List ℕ) → eqb (getD before 0 0) 0x9F ≡ false → rowIn (asPart 5 d) before ≡ rowIn (asPart 1 d) before
@@ -147,7 +171,7 @@ row-same d before h = row-stays (figuresOf 1) (getD before 0 0) h
 
 verdict-same : (d : Device) (array : ℕ) (sent : List ℕ) (pulses : ℕ) (w : Bool) (response : ℕ) → notRdid sent ≡ true
     → verdictOf (asPart 5 d) array sent pulses w response ≡ verdictOf (asPart 1 d) array sent pulses w response
-unfolding verdictOf hostNumber sound cycleSound addressOf figuresOf
+unfolding verdictOf hostNumber sound cycleSound locksSound addressOf figuresOf
 verdict-same d array sent pulses w response h =
     let at = addressOf (figuresOf 1) sent in
     let host = hostNumber (asPart 1 d) array (length sent) pulses response in
@@ -155,10 +179,10 @@ verdict-same d array sent pulses w response h =
 
 -- ---- the line
 
-by-row-stays : (r : Row) (f : Figures) (s : ℕ) (array before : List ℕ) → ((at k : ℕ) → kth (r .drive) (unidentified f) s array at k ≡ kth (r .drive) f s array at k)
-    → byRow r (unidentified f) s array before ≡ byRow r f s array before
-unfolding byRow addressOf
-by-row-stays r f s array before e = λ j. cond (leb (r .from) (length before)) (e (addressOf f before) (length before - r .from) j) silent
+by-row-stays : (r : Row) (f : Figures) (s : ℕ) (locks array before : List ℕ) → ((at k : ℕ) → kth (r .drive) (unidentified f) s locks array at k ≡ kth (r .drive) f s locks array at k)
+    → byRow r (unidentified f) s locks array before ≡ byRow r f s locks array before
+unfolding byRow addressOf lockOf
+by-row-stays r f s locks array before e = λ j. cond (leb (r .from) (length before)) (e (addressOf f before) (length before - r .from) j) silent
 
 driven-same : (d : Device) (array before : List ℕ) → eqb (getD before 0 0) 0x9F ≡ false → driven (asPart 5 d) array before ≡ driven (asPart 1 d) array before
 unfolding driven heardRow heard statusByte figuresOf
@@ -166,9 +190,9 @@ driven-same d array before h =
     let s = statusByte d in
     let code = getD before 0 0 in
     let r = rowOf (figuresOf 1) code in
-    ap (λ (r : Row). byRow (onlyIf (heard d r) r) (figuresOf 5) s array before) (row-same d before h)
-    ∙ by-row-stays (onlyIf (heard d r) r) (figuresOf 1) s array before
-    (λ at k. cond-ind (λ (x : Row). kth (x .drive) (figuresOf 5) s array at k ≡ kth (x .drive) (figuresOf 1) s array at k) (heard d r) (line-stays (figuresOf 1) code h s array at k) refl)
+    ap (λ (r : Row). byRow (onlyIf (heard d r) r) (figuresOf 5) s (d .locks) array before) (row-same d before h)
+    ∙ by-row-stays (onlyIf (heard d r) r) (figuresOf 1) s (d .locks) array before
+    (λ at k. cond-ind (λ (x : Row). kth (x .drive) (figuresOf 5) s (d .locks) array at k ≡ kth (x .drive) (figuresOf 1) s (d .locks) array at k) (heard d r) (line-stays (figuresOf 1) code h s (d .locks) array at k) refl)
 
 module _ (d : Device) (array sent : List ℕ) (h : notRdid sent ≡ true) where
   driving-same : drivingAt (asPart 5 d) array sent ≡ drivingAt (asPart 1 d) array sent
@@ -234,11 +258,15 @@ over-same d told = go (usesOf (d .cycle .kind) .settings && told)
 
 finished-same : (c : Chip) → finished (chipAs 5 c) ≡ chipAs 5 (finished (chipAs 1 c))
 unfolding finished touched figuresOf
-finished-same c = λ j. chip (over-same (c .device) true j) (mapAt (λ i x. touched-stays (c .device .cycle .kind) (figuresOf 1) (c .device .cycle .address) (c .device .cycle .slots) i x j) (c .array))
+finished-same c = λ j. chip (over-same (c .device) true j) (mapAt (λ i x. touched-stays (c .device .cycle .kind) (figuresOf 1) (c .device .cycle .address) (c .device .cycle .slots) (c .device .cycle .named) i x j) (c .array))
+
+powered-same : (c : Chip) → poweredUp (chipAs 5 c) ≡ chipAs 5 (poweredUp (chipAs 1 c))
+unfolding poweredUp unlocked locked
+powered-same c = λ j. chip (unlocked (finished-same c j .device)) (finished-same c j .array)
 
 lost-same : (c : Chip) (mask : List ℕ) (told : Bool) → lost (chipAs 5 c) mask told ≡ chipAs 5 (lost (chipAs 1 c) mask told)
-unfolding lost cut figuresOf
-lost-same c mask told = λ j. chip (over-same (c .device) told j) (mapAt (λ i x. cut-stays (c .device .cycle .kind) (figuresOf 1) (c .device .cycle .address) (c .device .cycle .slots) mask i x j) (c .array))
+unfolding lost cut unlocked locked figuresOf
+lost-same c mask told = λ j. chip (unlocked (over-same (c .device) told j)) (mapAt (λ i x. cut-stays (c .device .cycle .kind) (figuresOf 1) (c .device .cycle .address) (c .device .cycle .slots) (c .device .cycle .named) mask i x j) (c .array))
 
 waited-same : (m : Mode) (c : Chip) (t : ℕ) → waitedIn m (chipAs 5 c) t ≡ chipAs 5 (waitedIn m (chipAs 1 c) t)
 unfolding running moded
@@ -263,15 +291,15 @@ module _ (c : Chip) (p : c .device .part ≡ 5) where
   one = chipAs 1 c
 
   older-waits : (t : ℕ) → waitCall c t ≡ timedAs 5 (waitCall one t)
-  unfolding waitCall waited timeNumber sound cycleSound figuresOf
+  unfolding waitCall waited timeNumber sound cycleSound locksSound figuresOf
   older-waits t = ap (λ (e : Chip). waitCall e t) (renamed-chip c p) ∙ timed-same (timeNumber (one .device) (length (c .array)) 0) (waited (chipAs 5 c) t) (waited one t) c (waited-same (c .device .mode) c t)
 
   older-powers-up : powerUpCall c ≡ timedAs 5 (powerUpCall one)
-  unfolding powerUpCall timeNumber sound cycleSound figuresOf
-  older-powers-up = ap powerUpCall (renamed-chip c p) ∙ timed-same (timeNumber (one .device) (length (c .array)) 0) (finished (chipAs 5 c)) (finished one) c (finished-same c)
+  unfolding powerUpCall timeNumber sound cycleSound locksSound figuresOf
+  older-powers-up = ap powerUpCall (renamed-chip c p) ∙ timed-same (timeNumber (one .device) (length (c .array)) 0) (poweredUp (chipAs 5 c)) (poweredUp one) c (powered-same c)
 
   older-loses : (mask : List ℕ) (told : Bool) → lossCall c mask told ≡ timedAs 5 (lossCall one mask told)
-  unfolding lossCall timeNumber sound cycleSound figuresOf
+  unfolding lossCall timeNumber sound cycleSound locksSound figuresOf
   older-loses mask told = ap (λ (e : Chip). lossCall e mask told) (renamed-chip c p) ∙ timed-same (timeNumber (one .device) (length (c .array)) (maskNumber (length mask))) (lost (chipAs 5 c) mask told) (lost one mask told) c (lost-same c mask told)
 
 -- whatever the two calls hand back

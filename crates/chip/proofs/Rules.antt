@@ -1,7 +1,7 @@
 -- What holds of every transaction's outcome: what changes with answer 0 alone, what never changes, and which numbers there are.
 -- Assumes nothing.
 use mathlib.Core.Path.{_≡_, refl, sym, _∙_}
-use mathlib.Core.Bool.{Bool, true, false, cond, not, _&&_, _||_}
+use mathlib.Core.Bool.{Bool, true, false, cond, not, _&&_, _||_, true≢false}
 use mathlib.Core.List.{List, [], _∷_}
 use mathlib.Core.Logic.{_⊎_, inl, inr}
 use Prim.Native.Nat.{ℕ, zero, suc, _+_, _-_, _/_, _%_, _≤_, _<_}
@@ -13,7 +13,7 @@ use lib.ListN.{length, getD, take, drop, List·getD-eq-default}
 use Rattle.slices.specs.Changed.{mapAt, window, put}
 use Rattle.slices.proofs.Maps.{length-map, getD-map, getD-any}
 use Rattle.slices.proofs.Windows.{window-in, window-above}
-use Rattle.memory.specs.Memory.{programmed, erased}
+use Rattle.memory.specs.Memory.{programmed, named, replaced, erased}
 use Rattle.memory.specs.Missing.{mostMissing}
 use Rattle.memory.proofs.Unmet.{missing-few}
 use Rattle.parts.specs.declared.Figures.{Figures}
@@ -22,23 +22,25 @@ use Rattle.parts.proofs.Laws.{figures-ind}
 use Rattle.device.specs.declared.Device.{Device}
 use Rattle.device.specs.Device.{isBusy, isDeep, sound, statusByte}
 use Rattle.device.specs.declared.cycle.Kind.{Kind}
-use Rattle.device.specs.declared.cycle.Kind.the-variants.{Idle, Page, Sector, All, Settings}
-use Rattle.device.specs.Cycles.{usesOf, touchedIn, touched}
+use Rattle.device.specs.declared.cycle.Kind.the-variants.{Idle, Page, Sector, All, Settings, PageWrite, PageErase, Subsector}
+use Rattle.device.specs.Locks.{lockOf}
+use Rattle.device.specs.Cycles.{usesOf, noCycle, pageCycle, writeCycle, eraseCycle, allCycle, settingsCycle, touchedIn, touched}
+use Rattle.device.proofs.Sound.{lock-few}
 use Rattle.chip.specs.declared.table.Turn.{Turn}
-use Rattle.chip.specs.declared.table.Turn.the-variants.{Keep}
+use Rattle.chip.specs.declared.table.Turn.the-variants.{Keep, Enable, Disable, Start, Sleep, Wake, Lock}
 use Rattle.chip.specs.declared.table.Drive.{Drive}
-use Rattle.chip.specs.declared.table.Drive.the-variants.{Nothing, Identification, Status, Array, Signature}
+use Rattle.chip.specs.declared.table.Drive.the-variants.{Nothing, Identification, Status, Array, Signature, Register}
 use Rattle.chip.specs.declared.table.Row.{Row}
 use Rattle.chip.specs.declared.Answer.{Answer}
 use Rattle.chip.specs.declared.answers.Verdict.{Verdict}
 use Rattle.chip.specs.declared.answers.Verdict.the-variants.{Refused, Ignored, Executed}
-use Rattle.chip.specs.Table.{addressOf, rowIn}
-use Rattle.chip.specs.Answers.{hostNumber, writesSettings, guarded, asNeeded, chipNumber}
+use Rattle.chip.specs.Table.{addressOf, rowIn, onStart}
+use Rattle.chip.specs.Answers.{hostNumber, writesSettings, guarded, frozen, asNeeded, chipNumber}
 use Rattle.chip.specs.Line.{Driven, onLine, kth, identification, byRow, heardRow, driven, lined}
-use Rattle.chip.specs.Change.{cycleOf, changed, missingIn, missingOf, asItWas, turned}
+use Rattle.chip.specs.Change.{cycleOf, changed, missingIn, missingOf, turned}
 use Rattle.chip.proofs.Rows.{start-ind}
 use Rattle.chip.specs.Outcome.{Outcome, bare, outcomeOf, transacted}
-use Rattle.chip.proofs.Verdicts.{Host, Taken, Decision, refuses, ignores, executes, verdict-is, not-refused, not-ignored}
+use Rattle.chip.proofs.Verdicts.{Host, Taken, Decision, refuses, ignores, executes, verdict-is, not-refused, not-ignored, needs}
 use Rattle.slices.proofs.Choices.{cond-ind}
 use Rattle.chip.proofs.Lines.{first-soon}
 use Rattle.chip.proofs.Laws.{count-le}
@@ -53,7 +55,7 @@ listed k (x ∷ xs) = eqb k x || listed k xs
 
 -- the numbers that a transaction can answer
 abbrev pub numbers : List ℕ
-numbers = 0 ∷ 2 ∷ 3 ∷ 4 ∷ 5 ∷ 6 ∷ 11 ∷ 12 ∷ 13 ∷ 14 ∷ 15 ∷ 16 ∷ 17 ∷ 18 ∷ []
+numbers = 0 ∷ 2 ∷ 3 ∷ 4 ∷ 5 ∷ 6 ∷ 11 ∷ 12 ∷ 13 ∷ 14 ∷ 15 ∷ 16 ∷ 17 ∷ 18 ∷ 19 ∷ []
 
 -- a number of the host side is at most 8
 abbrev OfHost : ℕ → Type 0
@@ -67,9 +69,9 @@ host-number d array n pulses response =
     (cond-ind OfHost (ltb 65536 n) (refl, lit≤ tt)
     (cond-ind OfHost (ltb 7 pulses) (refl, lit≤ tt) (cond-ind OfHost (ltb response n) (refl, lit≤ tt) (refl, lit≤ tt)))))
 
--- a number of the chip is at most 18, and at least 11 where it is not 0
+-- a number of the chip is at most 19, and at least 11 where it is not 0
 abbrev OfChip : ℕ → Type 0
-OfChip k = (listed k numbers ≡ true) × ((k ≡ 0 → ⊥) → 11 ≤ k) × (k ≤ 18)
+OfChip k = (listed k numbers ≡ true) × ((k ≡ 0 → ⊥) → 11 ≤ k) × (k ≤ 19)
 
 chip-number : (d : Device) (r : Row) (n pulses : ℕ) (w : Bool) (at : ℕ) → OfChip (chipNumber d r n pulses w at)
 unfolding chipNumber
@@ -81,11 +83,12 @@ chip-number d r n pulses w at =
     (cond-ind OfChip (not (asNeeded r n pulses)) (refl, λ h. lit≤ tt, lit≤ tt)
     (cond-ind OfChip (r .latch && not (d .latch)) (refl, λ h. lit≤ tt, lit≤ tt)
     (cond-ind OfChip (guarded (r .turn) (figuresOf (d .part)) d at) (refl, λ h. lit≤ tt, lit≤ tt)
-    (cond-ind OfChip (writesSettings (r .turn) && d .srwd && not w) (refl, λ h. lit≤ tt, lit≤ tt) (refl, λ h. absurd (h refl), lit≤ tt))))))))
+    (cond-ind OfChip (writesSettings (r .turn) && d .srwd && not w) (refl, λ h. lit≤ tt, lit≤ tt)
+    (cond-ind OfChip (frozen (r .turn) (figuresOf (d .part)) d at) (refl, λ h. lit≤ tt, lit≤ tt) (refl, λ h. absurd (h refl), lit≤ tt)))))))))
 
--- what an answer's numbers are at most: the number 18, the first driven position 5, the count 65,536, the bits missing 2,048
+-- what an answer's numbers are at most: the number 19, the first driven position 5, the count 65,536, the bits missing 2,048
 pub record Few (a : Answer) : Type 0 where
-  pub number : a .number ≤ 18
+  pub number : a .number ≤ 19
   pub first : a .first ≤ 5
   pub count : a .count ≤ 65536
   pub missing : a .missing ≤ mostMissing
@@ -96,6 +99,9 @@ missing-in-few Page at sent array = missing-few at (drop 4 sent) array
 missing-in-few Sector at sent array = lit≤ tt
 missing-in-few All at sent array = lit≤ tt
 missing-in-few Settings at sent array = lit≤ tt
+missing-in-few PageWrite at sent array = lit≤ tt
+missing-in-few PageErase at sent array = lit≤ tt
+missing-in-few Subsector at sent array = lit≤ tt
 
 missing-of-few : (t : Turn) (at : ℕ) (sent array : List ℕ) → missingOf t at sent array ≤ mostMissing
 unfolding missingOf
@@ -112,20 +118,50 @@ map-bytes f xs h b i lt =
     let k : i < length xs = rw (length-map f xs) at lt in
     rw (getD-map f xs i 0 k) (h i (getD xs i 0) (b i k))
 
-pub touched-byte : (k : Kind) (f : Figures) (at : ℕ) (slots : List ℕ) (i x : ℕ) → x < 256 → touchedIn k f at slots i x < 256
-unfolding programmed erased
-touched-byte Idle f at slots i x h = h
-touched-byte Page f at slots i x h = cond-ind (λ (y : ℕ). y < 256) (eqb (i / 256) (at / 256)) (omega (arith, and-le-l x (getD slots (i % 256) 0))) h
-touched-byte Sector f at slots i x h = cond-ind (λ (y : ℕ). y < 256) (eqb (i / f .«sector_bytes») (at / f .«sector_bytes»)) (lit< tt) h
-touched-byte All f at slots i x h = lit< tt
-touched-byte Settings f at slots i x h = h
+-- a completed cycle leaves bytes bytes; of a page write, where its slots are
+pub touched-byte : (k : Kind) (f : Figures) (at : ℕ) (slots : List ℕ) (n i x : ℕ) → (usesOf k .named ≡ true → (j : ℕ) → getD slots j 0 < 256) → x < 256 → touchedIn k f at slots n i x < 256
+unfolding programmed replaced erased
+touched-byte Idle f at slots n i x b h = h
+touched-byte Page f at slots n i x b h = cond-ind (λ (y : ℕ). y < 256) (eqb (i / 256) (at / 256)) (omega (arith, and-le-l x (getD slots (i % 256) 0))) h
+touched-byte Sector f at slots n i x b h = cond-ind (λ (y : ℕ). y < 256) (eqb (i / f .«sector_bytes») (at / f .«sector_bytes»)) (lit< tt) h
+touched-byte All f at slots n i x b h = lit< tt
+touched-byte Settings f at slots n i x b h = h
+touched-byte PageWrite f at slots n i x b h = cond-ind (λ (y : ℕ). y < 256) (eqb (i / 256) (at / 256)) (cond-ind (λ (y : ℕ). y < 256) (named at n i) (b refl (i % 256)) h) h
+touched-byte PageErase f at slots n i x b h = cond-ind (λ (y : ℕ). y < 256) (eqb (i / 256) (at / 256)) (lit< tt) h
+touched-byte Subsector f at slots n i x b h = cond-ind (λ (y : ℕ). y < 256) (eqb (i / f .«subsector_bytes») (at / f .«subsector_bytes»)) (lit< tt) h
 
--- bytes stay bytes
-pub changed-byte : (t : Turn) (f : Figures) (at : ℕ) (sent : List ℕ) (i x : ℕ) → x < 256 → changed t f at sent i x < 256
+-- the cycle that an instruction starts names bytes where its kind does
+cycle-named : (k : Kind) (f : Figures) (at : ℕ) (sent : List ℕ) → usesOf (cycleOf k f at sent .kind) .named ≡ usesOf k .named
+unfolding cycleOf noCycle pageCycle writeCycle eraseCycle allCycle settingsCycle
+cycle-named Idle f at sent = refl
+cycle-named Page f at sent = refl
+cycle-named Sector f at sent = refl
+cycle-named All f at sent = refl
+cycle-named Settings f at sent = refl
+cycle-named PageWrite f at sent = refl
+cycle-named PageErase f at sent = refl
+cycle-named Subsector f at sent = refl
+
+-- an instruction that names bytes starts a page write
+abbrev pub namesBytes : Turn → Bool
+namesBytes t = onStart t (λ k. usesOf k .named) false
+
+-- bytes stay bytes under what an instruction starts that names none
+pub changed-byte : (t : Turn) (f : Figures) (at : ℕ) (sent : List ℕ) (i x : ℕ) → namesBytes t ≡ false → x < 256 → changed t f at sent i x < 256
 unfolding changed touched
-changed-byte t f at sent i x h =
-    start-ind (λ (g : ℕ → ℕ → ℕ). g i x < 256) t (λ k. touched f (cycleOf k f at sent)) asItWas
-    (λ k. touched-byte (cycleOf k f at sent .kind) f (cycleOf k f at sent .address) (cycleOf k f at sent .slots) i x h) h
+changed-byte t f at sent i x = go t
+  where
+    kept : (k : Kind) → usesOf k .named ≡ false → usesOf (cycleOf k f at sent .kind) .named ≡ false
+    kept k e = cycle-named k f at sent ∙ e
+
+    go : (t : Turn) → namesBytes t ≡ false → x < 256 → changed t f at sent i x < 256
+    go Keep e h = h
+    go Enable e h = h
+    go Disable e h = h
+    go (Start k) e h = let c = cycleOf k f at sent in touched-byte (c .kind) f (c .address) (c .slots) (c .named) i x (λ q. absurd (true≢false (sym q ∙ kept k e))) h
+    go Sleep e h = h
+    go Wake e h = h
+    go Lock e h = h
 
 -- a part's identification and signature are bytes
 pub record Figured (f : Figures) : Type 0 where
@@ -137,6 +173,7 @@ pub record Figured (f : Figures) : Type 0 where
 figured : (p : ℕ) → Figured (figuresOf p)
 figured p =
     figures-ind Figured (λ f h. record { maker = lit< tt; «memory-type» = lit< tt; capacity = lit< tt; signature = h .signature })
+    (record { maker = lit< tt; «memory-type» = lit< tt; capacity = lit< tt; signature = lit< tt })
     (record { maker = lit< tt; «memory-type» = lit< tt; capacity = lit< tt; signature = lit< tt })
     (record { maker = lit< tt; «memory-type» = lit< tt; capacity = lit< tt; signature = lit< tt })
     (record { maker = lit< tt; «memory-type» = lit< tt; capacity = lit< tt; signature = lit< tt })
@@ -166,19 +203,22 @@ getD-byte xs i b = go (ltb i (length xs)) refl
     go true e = let k = ltb-true i (length xs) e in rw (getD-any xs i 255 0 k) (b i k)
     go false e = rw (List·getD-eq-default xs 255 (ltb-false i (length xs) e)) (lit< tt)
 
-kth-byte : (dr : Drive) (f : Figures) (s : ℕ) (array : List ℕ) (at k : ℕ) → Figured f → s < 256 → Bytes array → onLine (kth dr f s array at k) < 256
-kth-byte Nothing f s array at k h l b = lit< tt
-kth-byte Identification f s array at k h l b = identification-byte f k h
-kth-byte Status f s array at k h l b = l
-kth-byte Array f s array at k h l b = getD-byte array ((at + k) % length array) b
-kth-byte Signature f s array at k h l b = h .signature
+kth-byte : (dr : Drive) (f : Figures) (s : ℕ) (locks array : List ℕ) (at k : ℕ) → Figured f → s < 256 → lockOf f locks at < 256 → Bytes array → onLine (kth dr f s locks array at k) < 256
+kth-byte Nothing f s locks array at k h l r b = lit< tt
+kth-byte Identification f s locks array at k h l r b = identification-byte f k h
+kth-byte Status f s locks array at k h l r b = l
+kth-byte Array f s locks array at k h l r b = getD-byte array ((at + k) % length array) b
+kth-byte Signature f s locks array at k h l r b = h .signature
+kth-byte Register f s locks array at k h l r b = r
 
 -- what is driven is a byte
-pub driven-byte : (d : Device) (array before : List ℕ) → Bytes array → onLine (driven d array before) < 256
+pub driven-byte : (d : Device) (array before : List ℕ) → sound d ≡ true → Bytes array → onLine (driven d array before) < 256
 unfolding driven byRow
-driven-byte d array before b =
+driven-byte d array before sure b =
+    let at = addressOf (figuresOf (d .part)) before in
+    let few : lockOf (figuresOf (d .part)) (d .locks) at < 256 = omega (arith, lock-few d at sure) in
     cond-ind (λ (x : Driven). onLine x < 256) (leb (heardRow d before .from) (length before))
-    (kth-byte (heardRow d before .drive) (figuresOf (d .part)) (statusByte d) array (addressOf (figuresOf (d .part)) before) (length before - heardRow d before .from) (figured (d .part)) (status-byte d) b)
+    (kth-byte (heardRow d before .drive) (figuresOf (d .part)) (statusByte d) (d .locks) array at (length before - heardRow d before .from) (figured (d .part)) (status-byte d) few b)
     (lit< tt)
 
 -- an executed instruction's answer is 0
@@ -245,7 +285,7 @@ module _ (d : Device) (array sent : List ℕ) (pulses : ℕ) (w : Bool) (respons
       (λ h b n l. let k = chip-number d (rowIn d sent) (length sent) pulses w (addressOf (figuresOf (d .part)) sent) .1 b in absurd (omega arith))
       (λ h t n l. absurd (n refl))
 
-  -- with 11 to 18 the first n response bytes are FF
+  -- with 11 to 19 the first n response bytes are FF
   pub chip-blanks : 11 ≤ out .answer .number → (i : ℕ) → i < length sent → getD (out .response) i 0 ≡ 255
   unfolding outcomeOf
   chip-blanks =
@@ -291,7 +331,7 @@ module _ (d : Device) (array sent : List ℕ) (pulses : ℕ) (w : Bool) (respons
   response-bytes a b =
       outcome-ind (λ (o : Outcome). Bytes (o .response)) (λ n. b)
       (λ h n. map-bytes (window 0 (length sent) (put 255)) response (λ i x l. cond-ind (λ (y : ℕ). y < 256) (leb 0 i && ltb i (length sent)) (lit< tt) l) b)
-      (λ h t. map-bytes (lined d array sent) response (λ i x l. cond-ind (λ (y : ℕ). y < 256) (ltb i (length sent)) (driven-byte d array (take i sent) a) l) b)
+      (λ h t. map-bytes (lined d array sent) response (λ i x l. cond-ind (λ (y : ℕ). y < 256) (ltb i (length sent)) (driven-byte d array (take i sent) (h .sound) a) l) b)
 
   -- a sound record stays sound
   pub stays-sound : sound d ≡ true → sound (out .device) ≡ true
@@ -299,7 +339,7 @@ module _ (d : Device) (array sent : List ℕ) (pulses : ℕ) (w : Bool) (respons
   stays-sound s =
       outcome-ind (λ (o : Outcome). sound (o .device) ≡ true) (λ a. s) (λ h b. s)
       (λ h t.
-      turned-sound (rowIn d sent .turn) d sent (getD sent 0 0) (rowIn d sent .busy) (turn-law (figuresOf (d .part)) (getD sent 0 0)) (t .busy) s)
+      turned-sound (rowIn d sent .turn) d sent (getD sent 0 0) (rowIn d sent .least) (rowIn d sent .busy) (turn-law (figuresOf (d .part)) (getD sent 0 0)) (needs (rowIn d sent) (length sent) pulses (t .needed) .least) (t .busy) s)
 
   -- no transaction changes BP or SRWD
   pub settings-stay : SameSettings d (out .device)
@@ -313,7 +353,7 @@ module _ (d : Device) (array sent : List ℕ) (pulses : ℕ) (w : Bool) (respons
   unfolding outcomeOf
   only-wrsr-writes =
       outcome-ind (λ (o : Outcome). usesOf (o .device .cycle .kind) .settings ≡ true → (usesOf (d .cycle .kind) .settings ≡ true) ⊎ ((getD sent 0 0 ≡ 0x01) × (o .answer .number ≡ 0))) (λ a e. inl e) (λ h b e. inl e)
-      (λ h t e. executed-one (turned-writes (rowIn d sent .turn) (figuresOf (d .part)) d (addressOf (figuresOf (d .part)) sent) sent (getD sent 0 0) (rowIn d sent .busy) (turn-law (figuresOf (d .part)) (getD sent 0 0)) e))
+      (λ h t e. executed-one (turned-writes (rowIn d sent .turn) (figuresOf (d .part)) d (addressOf (figuresOf (d .part)) sent) sent (getD sent 0 0) (rowIn d sent .least) (rowIn d sent .busy) (turn-law (figuresOf (d .part)) (getD sent 0 0)) e))
 
   -- no call changes the part or a duration
   pub make-stays : SameMake d (out .device)

@@ -16,7 +16,7 @@ use Rattle.chip.specs.declared.table.Row.{Row}
 use Rattle.chip.specs.declared.answers.Verdict.{Verdict}
 use Rattle.chip.specs.declared.answers.Verdict.the-variants.{Refused, Ignored, Executed}
 use Rattle.chip.specs.Table.{addressOf, rowIn}
-use Rattle.chip.specs.Answers.{hostNumber, writesSettings, guarded, asNeeded, chipNumber, decided, verdictOf}
+use Rattle.chip.specs.Answers.{hostNumber, writesSettings, guarded, frozen, asNeeded, chipNumber, decided, verdictOf}
 
 -- ---- tests
 
@@ -75,6 +75,7 @@ pub record Taken (d : Device) (r : Row) (n pulses : ℕ) (w : Bool) (at : ℕ) :
   pub latch : r .latch ≡ true → d .latch ≡ true
   pub free : guarded (r .turn) (figuresOf (d .part)) d at ≡ false
   pub unfrozen : writesSettings (r .turn) && d .srwd ≡ true → w ≡ true
+  pub unlocked : frozen (r .turn) (figuresOf (d .part)) d at ≡ false
 
 pub needs : (r : Row) (n pulses : ℕ) → asNeeded r n pulses ≡ true → Needs r n pulses
 unfolding asNeeded
@@ -99,6 +100,7 @@ not-ignored d r n pulses w at h =
     let p16 = past (r .latch && not (d .latch)) 15 _ (p15 .1) in
     let p17 = past (guarded (r .turn) (figuresOf (d .part)) d at) 16 _ (p16 .1) in
     let p18 = past (writesSettings (r .turn) && d .srwd && not w) 17 _ (p17 .1) in
+    let p19 = past (frozen (r .turn) (figuresOf (d .part)) d at) 18 _ (p18 .1) in
     record {
       some = eqb-false n 0 (p11 .0);
       known = not-false (r .known) (p14 .0);
@@ -108,6 +110,7 @@ not-ignored d r n pulses w at h =
       latch = unless (r .latch) (d .latch) (p16 .0);
       free = p17 .0;
       unfrozen = unless (writesSettings (r .turn) && d .srwd) w (p18 .0);
+      unlocked = p19 .0;
     }
 
 -- ---- the verdict

@@ -1,5 +1,5 @@
--- Document 01, 'Answer numbers': the first that applies is given. Lengths are handed over as numbers.
-use mathlib.Core.Bool.{Bool, false, cond, not, _&&_, _||_}
+-- Document 01, 'Answer numbers', and document 02, Wish 11: the first that applies is given. Lengths are handed over as numbers.
+use mathlib.Core.Bool.{Bool, true, false, cond, not, _&&_, _||_}
 use mathlib.Core.List.{List}
 use Prim.Native.Nat.{ℕ, _-_, _/_}
 use lib.Dec.{eqb, leb, ltb}
@@ -10,9 +10,11 @@ use Rattle.parts.specs.Protected.{protectedOf}
 use Rattle.device.specs.declared.Device.{Device}
 use Rattle.device.specs.Device.{isBusy, isDeep, sound, rangedOf}
 use Rattle.device.specs.declared.cycle.Kind.{Kind}
-use Rattle.device.specs.declared.cycle.Kind.the-variants.{Idle, Page, Sector, All, Settings}
+use Rattle.device.specs.declared.cycle.Kind.the-variants.{Idle, Page, Sector, All, Settings, PageWrite, PageErase, Subsector}
+use Rattle.device.specs.Locks.{stops, freezes, lockOf, anyStops}
 use Rattle.device.specs.Cycles.{usesOf}
 use Rattle.chip.specs.declared.table.Turn.{Turn}
+use Rattle.chip.specs.declared.table.Turn.the-variants.{Keep, Enable, Disable, Start, Sleep, Wake, Lock}
 use Rattle.chip.specs.declared.table.Row.{Row}
 use Rattle.chip.specs.declared.answers.Verdict.{Verdict}
 use Rattle.chip.specs.declared.answers.Verdict.the-variants.{Refused, Ignored, Executed}
@@ -48,23 +50,52 @@ writesSettings t = onStart t (λ k. usesOf k .settings) false
 unfoldable pub inProtected : Figures → ℕ → ℕ → Bool
 inProtected f bp at = leb (f .sectors - protectedOf (f .sectors) bp) (at / f .«sector_bytes»)
 
--- what guards a cycle: PP or SE in a protected sector; BE with BP above 0
+-- whether the sector of an address is protected: by BP, or by its lock register's write lock
+unfoldable pub protectedAt : Figures → Device → ℕ → Bool
+protectedAt f d at = inProtected f (d .bp) at || stops (lockOf f (d .locks) at)
+
+-- whether any sector is: BP above 0, or a write lock set
+unfoldable pub protectedAny : Device → Bool
+protectedAny d = ltb 0 (d .bp) || anyStops (d .locks)
+
+-- what a cycle has by where it writes: in the sector of its address, in all sectors, or nowhere
+abbrev pub byArea : Kind → Bool → Bool → Bool
+byArea Idle here all = false
+byArea Page here all = here
+byArea Sector here all = here
+byArea All here all = all
+byArea Settings here all = false
+byArea PageWrite here all = here
+byArea PageErase here all = here
+byArea Subsector here all = here
+
+-- what guards a cycle: the protected sector that it would write in; of a bulk erase any
 abbrev pub guardedIn : Kind → Figures → Device → ℕ → Bool
-guardedIn Idle f d at = false
-guardedIn Page f d at = inProtected f (d .bp) at
-guardedIn Sector f d at = inProtected f (d .bp) at
-guardedIn All f d at = ltb 0 (d .bp)
-guardedIn Settings f d at = false
+guardedIn k f d at = byArea k (protectedAt f d at) (protectedAny d)
 
 -- an instruction whose cycle is guarded
 abbrev pub guarded : Turn → Figures → Device → ℕ → Bool
 guarded t f d at = onStart t (λ k. guardedIn k f d at) false
 
+-- the instruction that writes a lock register
+abbrev pub writesLock : Turn → Bool
+writesLock Keep = false
+writesLock Enable = false
+writesLock Disable = false
+writesLock (Start k) = false
+writesLock Sleep = false
+writesLock Wake = false
+writesLock Lock = true
+
+-- an instruction that writes a frozen lock register
+abbrev pub frozen : Turn → Figures → Device → ℕ → Bool
+frozen t f d at = writesLock t && freezes (lockOf f (d .locks) at)
+
 -- whether n and the further pulses are as needed
 unfoldable pub asNeeded : Row → ℕ → ℕ → Bool
 asNeeded r n pulses = leb (r .least) n && leb n (r .most) && (not (r .«no_pulses») || eqb pulses 0)
 
--- the chip ignores: 11, 14, 12, 13, 15, 16, 17, 18, or 0
+-- the chip ignores: 11, 14, 12, 13, 15, 16, 17, 18, 19, or 0
 unfoldable pub chipNumber : Device → Row → ℕ → ℕ → Bool → ℕ → ℕ
 chipNumber d r n pulses w at =
     cond (eqb n 0) 11
@@ -75,7 +106,8 @@ chipNumber d r n pulses w at =
     (cond (r .latch && not (d .latch)) 16
     (cond (guarded (r .turn) (figuresOf (d .part)) d at) 17
     (cond (writesSettings (r .turn) && d .srwd && not w) 18
-    0)))))))
+    (cond (frozen (r .turn) (figuresOf (d .part)) d at) 19
+    0))))))))
 
 -- ---- the verdict
 

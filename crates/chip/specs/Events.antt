@@ -1,6 +1,6 @@
 -- The chip over lists of events: what may be done to it, what that leaves, and what the caller sees.
 use mathlib.Core.Path.{_≡_}
-use mathlib.Core.Bool.{Bool, true, _&&_}
+use mathlib.Core.Bool.{Bool, true, false, _&&_}
 use mathlib.Core.List.{List, [], _∷_}
 use Prim.Native.Nat.{ℕ, _+_}
 use lib.ListN.{length, replicate}
@@ -30,6 +30,13 @@ pub data Event : Type 0 where
 abbrev pub every : (Event → Bool) → List Event → Bool
 every test [] = true
 every test (e ∷ es) = test e && every test es
+
+-- a transaction or a wait: power stays on
+abbrev pub goesOn : Event → Bool
+goesOn (sends bytes p w) = true
+goesOn (waits t) = true
+goesOn starts = false
+goesOn (loses mask told) = false
 
 -- what the caller sees: the answer, and as many response bytes as were sent
 pub record Reply : Type 0 where

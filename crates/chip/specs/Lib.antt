@@ -6,5 +6,7 @@ pub mod Change
 pub mod Outcome
 pub mod Events
 pub mod Protection
+pub mod Locked
 pub mod Older
 pub mod Worked
+pub mod WorkedPe

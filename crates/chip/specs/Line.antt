@@ -10,9 +10,10 @@ use Rattle.memory.specs.Memory.{rolled}
 use Rattle.parts.specs.declared.Figures.{Figures}
 use Rattle.parts.specs.Parts.{figuresOf}
 use Rattle.device.specs.declared.Device.{Device}
+use Rattle.device.specs.Locks.{lockOf}
 use Rattle.device.specs.Device.{isBusy, isDeep, statusByte}
 use Rattle.chip.specs.declared.table.Drive.{Drive}
-use Rattle.chip.specs.declared.table.Drive.the-variants.{Nothing, Identification, Status, Array, Signature}
+use Rattle.chip.specs.declared.table.Drive.the-variants.{Nothing, Identification, Status, Array, Signature, Register}
 use Rattle.chip.specs.declared.table.Row.{Row}
 use Rattle.chip.specs.declared.line.Span.{Span}
 use Rattle.chip.specs.declared.line.LineByte.{LineByte}
@@ -32,18 +33,19 @@ onLine (drives b) = b
 abbrev pub identification : Figures → ℕ → ℕ
 identification f k = getD (f .maker ∷ f .«memory_type» ∷ f .capacity ∷ []) k 0
 
--- driven byte k, counted from the first: identification; the status byte, repeated; the array from the address on, rolling over from last byte to 0; the signature, repeated
-abbrev pub kth : Drive → Figures → ℕ → List ℕ → ℕ → ℕ → Driven
-kth Nothing f status array at k = silent
-kth Identification f status array at k = drives (identification f k)
-kth Status f status array at k = drives status
-kth Array f status array at k = drives (rolled array at k)
-kth Signature f status array at k = drives (f .signature)
+-- driven byte k, counted from the first: identification; the status byte, repeated; the array from the address on, rolling over from last byte to 0; the signature, repeated; the lock register of the address, repeated
+abbrev pub kth : Drive → Figures → ℕ → List ℕ → List ℕ → ℕ → ℕ → Driven
+kth Nothing f status locks array at k = silent
+kth Identification f status locks array at k = drives (identification f k)
+kth Status f status locks array at k = drives status
+kth Array f status locks array at k = drives (rolled array at k)
+kth Signature f status locks array at k = drives (f .signature)
+kth Register f status locks array at k = drives (lockOf f locks at)
 
 -- what a row drives after the bytes before
-unfoldable pub byRow : Row → Figures → ℕ → List ℕ → List ℕ → Driven
-byRow r f status array before =
-    cond (leb (r .from) (length before)) (kth (r .drive) f status array (addressOf f before) (length before - r .from)) silent
+unfoldable pub byRow : Row → Figures → ℕ → List ℕ → List ℕ → List ℕ → Driven
+byRow r f status locks array before =
+    cond (leb (r .from) (length before)) (kth (r .drive) f status locks array (addressOf f before) (length before - r .from)) silent
 
 -- whether an instruction is taken at all: known, and, while busy or in deep power-down, one that is taken then
 unfoldable pub heard : Device → Row → Bool
@@ -55,7 +57,7 @@ heardRow d before = onlyIf (heard d (rowIn d before)) (rowIn d before)
 
 -- what is driven during the byte that comes after the bytes before
 unfoldable pub driven : Device → List ℕ → List ℕ → Driven
-driven d array before = byRow (heardRow d before) (figuresOf (d .part)) (statusByte d) array before
+driven d array before = byRow (heardRow d before) (figuresOf (d .part)) (statusByte d) (d .locks) array before
 
 -- the response: byte i of the first n is what was driven during byte i, the rest stays
 unfoldable pub lined : Device → List ℕ → List ℕ → ℕ → ℕ → ℕ
@@ -105,6 +107,7 @@ spanOf Identification from n = fromOn from n
 spanOf Status from n = fromOn from n
 spanOf Array from n = fromOn from n
 spanOf Signature from n = fromOn from n
+spanOf Register from n = fromOn from n
 
 -- what the response function promises
 pub record Responded (d : Device) (array sent response : List ℕ) (s : Span) (response′ : List ℕ) : Type 0 where

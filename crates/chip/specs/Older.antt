@@ -13,7 +13,7 @@ use Rattle.chip.specs.Events.{Chip, Event, sends, waits, starts, loses, 
 
 -- the same record with another part number
 abbrev pub asPart : ℕ → Device → Device
-asPart p d = record { part = p; bp = d .bp; srwd = d .srwd; latch = d .latch; mode = d .mode; program = d .program; «sector_erase» = d .«sector_erase»; «bulk_erase» = d .«bulk_erase»; «write_status» = d .«write_status»; cycle = d .cycle }
+asPart p d = record { part = p; bp = d .bp; srwd = d .srwd; latch = d .latch; mode = d .mode; program = d .program; «sector_erase» = d .«sector_erase»; «bulk_erase» = d .«bulk_erase»; «write_status» = d .«write_status»; cycle = d .cycle; locks = d .locks }
 
 -- the same outcome of a transaction, the next record's part number apart
 abbrev pub outcomeAs : ℕ → Outcome → Outcome

@@ -1,4 +1,4 @@
--- Document 02, Wish 8, with the power losses of Wish 9: what hardware protection is worth, and its limits.
+-- Document 02, Wish 8, with the power losses of Wish 9: what hardware protection is worth, and its limits. The wish asks it of the M25P parts; it is proved of every part, and of the M25PE40 it speaks of what BP protects.
 use mathlib.Core.Path.{_≡_}
 use mathlib.Core.Bool.{Bool, true, false, not}
 use mathlib.Core.List.{List, [], _∷_, _++_, map}
@@ -7,6 +7,7 @@ use lib.ListN.{length, getD, replicate}
 use Rattle.parts.specs.Parts.{figuresOf}
 use Rattle.device.specs.declared.Mode.the-variants.{Standby, Busy}
 use Rattle.device.specs.declared.Device.{Device}
+use Rattle.device.specs.Locks.{noLocks}
 use Rattle.device.specs.Cycles.{settingsCycle}
 use Rattle.chip.specs.Answers.{hostNumber, inProtected}
 use Rattle.chip.specs.Outcome.{transacted}
@@ -30,7 +31,7 @@ wLow (loses mask told) = true
 
 -- ---- what stays
 
--- byte i stands in a protected sector, by the test that answers 17
+-- byte i stands in a sector that BP protects: on the M25P parts, the test that answers 17
 abbrev pub isProtected : Device → ℕ → Bool
 isProtected d i = inProtected (figuresOf (d .part)) (d .bp) i
 
@@ -68,7 +69,7 @@ attempt w =
 
 -- the same start, SRWD set, but in a write of the settings 00 with two ticks left: it was begun while W was high
 abbrev pub begun : Chip
-begun = fresh (record { part = 0; bp = 1; srwd = true; latch = true; mode = Busy 2; program = 3; «sector_erase» = 5; «bulk_erase» = 9; «write_status» = 2; cycle = settingsCycle false 0 })
+begun = fresh (record { part = 0; bp = 1; srwd = true; latch = true; mode = Busy 2; program = 3; «sector_erase» = 5; «bulk_erase» = 9; «write_status» = 2; cycle = settingsCycle false 0; locks = noLocks })
 
 -- its two ticks, or power lost in it, with a word; then write enable, a program of 00 at byte 3,072 and its three ticks, W low throughout
 abbrev pub ending : Event → List Event

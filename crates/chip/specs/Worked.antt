@@ -8,6 +8,7 @@ use Rattle.parts.specs.Parts.{figuresOf}
 use Rattle.device.specs.declared.Mode.{Mode}
 use Rattle.device.specs.declared.Mode.the-variants.{Standby, Busy, Deep}
 use Rattle.device.specs.declared.Device.{Device}
+use Rattle.device.specs.Locks.{noLocks}
 use Rattle.device.specs.Cycles.{noCycle, allCycle}
 use Rattle.chip.specs.declared.Answer.{Answer}
 use Rattle.chip.specs.Outcome.{bare}
@@ -56,11 +57,11 @@ all (k ∷ ks) = sees (k .steps) (fresh (k .device)) && all ks
 
 -- a record by part, BP, SRWD, latch and mode; durations 3, 5, 9, 2; no cycle
 abbrev pub record-of : ℕ → ℕ → Bool → Bool → Mode → Device
-record-of p b s l m = record { part = p; bp = b; srwd = s; latch = l; mode = m; program = 3; «sector_erase» = 5; «bulk_erase» = 9; «write_status» = 2; cycle = noCycle }
+record-of p b s l m = record { part = p; bp = b; srwd = s; latch = l; mode = m; program = 3; «sector_erase» = 5; «bulk_erase» = 9; «write_status» = 2; cycle = noCycle; locks = noLocks }
 
 -- a part with 3 ticks of a bulk erase left
 abbrev pub erasing : ℕ → Device
-erasing p = record { part = p; bp = 0; srwd = false; latch = true; mode = Busy 3; program = 3; «sector_erase» = 5; «bulk_erase» = 9; «write_status» = 2; cycle = allCycle }
+erasing p = record { part = p; bp = 0; srwd = false; latch = true; mode = Busy 3; program = 3; «sector_erase» = 5; «bulk_erase» = 9; «write_status» = 2; cycle = allCycle; locks = noLocks }
 
 -- the bench part in standby, by BP, SRWD and latch
 abbrev pub bench : ℕ → Bool → Bool → Device
@@ -72,7 +73,7 @@ usual = bench 0 false true
 
 -- the same with durations of 1
 abbrev pub quick : Device
-quick = record { part = 0; bp = 0; srwd = false; latch = true; mode = Standby; program = 1; «sector_erase» = 1; «bulk_erase» = 1; «write_status» = 1; cycle = noCycle }
+quick = record { part = 0; bp = 0; srwd = false; latch = true; mode = Standby; program = 1; «sector_erase» = 1; «bulk_erase» = 1; «write_status» = 1; cycle = noCycle; locks = noLocks }
 
 -- a transaction: level of W, further pulses, the bytes; then the whole answer and the line
 abbrev pub sends : Bool → ℕ → List ℕ → Answer → List ℕ → Step

@@ -3,7 +3,7 @@ ghost use mathlib.Core.Path.{_≡_};
 ghost use mathlib.Core.Bool.{cond, not, _&&_};
 ghost use Prim.Native.Nat.{_<_};
 ghost use Rattle.parts.specs.Parts.{figuresOf};
-ghost use Rattle.chip.specs.Answers.{hostNumber, writesSettings, inProtected, guardedIn, guarded, asNeeded, chipNumber, decided};
+ghost use Rattle.chip.specs.Answers.{hostNumber, writesSettings, inProtected, protectedAt, protectedAny, guardedIn, guarded, frozen, asNeeded, chipNumber, decided};
 use crate::LONGEST;
 use crate::table::Instruction;
 use crate::table::Row;
@@ -13,6 +13,10 @@ use device::cycle::Kind;
 use device::cycle::Uses;
 use device::is_busy;
 use device::is_deep;
+use device::locks::any_stops;
+use device::locks::freezes;
+use device::locks::lock_of;
+use device::locks::stops;
 use parts::Figures;
 
 // What becomes of a transaction: refused by the host side, ignored by the chip, each with its number, or executed.
@@ -45,24 +49,45 @@ fn in_protected(figures: Figures, bp: u8, at: u32) -> bool
     figures.sectors - few <= sector
 }
 
-// What guards a cycle: PP or SE in a protected sector; BE with BP above 0.
+// Whether the sector of an address is protected, by BP or by its lock register.
+fn protected_at(figures: Figures, device: Device, at: u32) -> bool
+    requires { ⌜ 0 < figures .«sector_bytes» ⌝ }
+    ensures { λ r. ⌜ r ≡ protectedAt figures device at ⌝ }
+{
+    let locks = device.locks;
+    let register = lock_of(figures, locks, at);
+    in_protected(figures, device.bp, at) | stops(register)
+}
+
+// Whether any sector is: BP above 0, or a write lock set.
+fn protected_any(device: Device) -> bool
+    ensures { λ r. ⌜ r ≡ protectedAny device ⌝ }
+{
+    let locks = device.locks;
+    (0 < device.bp) | any_stops(locks)
+}
+
+// What guards a cycle: the protected sector that it would write in; of a bulk erase any.
 fn is_guarded(kind: Kind, figures: Figures, device: Device, at: u32) -> bool
     requires { ⌜ 0 < figures .«sector_bytes» ⌝ }
     ensures { λ r. ⌜ r ≡ guardedIn kind figures device at ⌝ }
 {
     match kind {
         Kind::Idle => false,
-        Kind::Page => in_protected(figures, device.bp, at),
-        Kind::Sector => in_protected(figures, device.bp, at),
-        Kind::All => 0 < device.bp,
+        Kind::Page => protected_at(figures, device, at),
+        Kind::Sector => protected_at(figures, device, at),
+        Kind::All => protected_any(device),
         Kind::Settings => false,
+        Kind::PageWrite => protected_at(figures, device, at),
+        Kind::PageErase => protected_at(figures, device, at),
+        Kind::Subsector => protected_at(figures, device, at),
     }
 }
 
-// The number of an instruction whose cycle is guarded, or frozen: 17, 18, or 0.
+// The number of an instruction whose cycle is guarded, or whose settings or lock register are frozen: 17, 18, 19, or 0.
 fn guard_number(turn: Turn, figures: Figures, device: Device, w: bool, at: u32) -> u8
     requires { ⌜ 0 < figures .«sector_bytes» ⌝ }
-    ensures { λ r. ⌜ r ≡ cond (guarded turn figures device at) 17 (cond (writesSettings turn && device .srwd && not w) 18 0) ⌝ }
+    ensures { λ r. ⌜ r ≡ cond (guarded turn figures device at) 17 (cond (writesSettings turn && device .srwd && not w) 18 (cond (frozen turn figures device at) 19 0)) ⌝ }
 {
     match turn {
         Turn::Start(kind) => {
@@ -76,6 +101,11 @@ fn guard_number(turn: Turn, figures: Figures, device: Device, w: bool, at: u32) 
         Turn::Disable => 0,
         Turn::Sleep => 0,
         Turn::Wake => 0,
+        Turn::Lock => {
+            let locks = device.locks;
+            let register = lock_of(figures, locks, at);
+            slices::when(freezes(register), 19, 0)
+        }
     }
 }
 

@@ -6,6 +6,7 @@ use device::Device;
 use device::Mode;
 use device::cycle::Cycle;
 use device::cycle::Kind;
+use device::locks::relocked;
 use parts::Figures;
 
 // BP of a settings byte.
@@ -30,13 +31,21 @@ fn cycle_of(kind: Kind, figures: Figures, at: u32, sent: &[u8]) -> Cycle
             let slots = memory::page_latch(&sent[from..], at);
             Cycle::page(at, slots)
         }
-        Kind::Sector => Cycle::sector(at),
+        Kind::Sector => Cycle::erase(Kind::Sector, at),
         Kind::All => Cycle::all(),
         Kind::Settings => {
             let b = slices::byte_at(sent, 1);
             let bp = bp_in(figures, b);
             Cycle::settings(b >= 128, bp)
         }
+        Kind::PageWrite => {
+            let from = slices::least(4, sent.len());
+            let slots = memory::page_latch(&sent[from..], at);
+            let named = slices::least(256, sent.len() - from);
+            Cycle::write(at, slots, named as u32)
+        }
+        Kind::PageErase => Cycle::erase(Kind::PageErase, at),
+        Kind::Subsector => Cycle::erase(Kind::Subsector, at),
     }
 }
 
@@ -53,6 +62,9 @@ fn missing_in(kind: Kind, at: u32, sent: &[u8], array: &[u8]) -> u32
         Kind::Sector => 0,
         Kind::All => 0,
         Kind::Settings => 0,
+        Kind::PageWrite => 0,
+        Kind::PageErase => 0,
+        Kind::Subsector => 0,
     }
 }
 
@@ -67,10 +79,11 @@ pub(crate) fn missing_of(turn: Turn, at: u32, sent: &[u8], array: &[u8]) -> u32
         Turn::Disable => 0,
         Turn::Sleep => 0,
         Turn::Wake => 0,
+        Turn::Lock => 0,
     }
 }
 
-// The record after an executed instruction: a cycle that is started is remembered.
+// The record after an executed instruction: a cycle that is started is remembered; a lock register takes byte 4, and the latch is reset.
 pub(crate) fn next_record(
     turn: Turn,
     figures: Figures,
@@ -90,5 +103,10 @@ pub(crate) fn next_record(
         }
         Turn::Sleep => device.moded(device.latch, Mode::Deep),
         Turn::Wake => device.moded(device.latch, Mode::Standby),
+        Turn::Lock => {
+            let locks = device.locks;
+            let next = relocked(figures, locks, at, slices::byte_at(sent, 4));
+            device.locked(next).latched(false)
+        }
     }
 }

@@ -3,6 +3,7 @@ ghost use mathlib.Core.Path.{_≡_};
 ghost use Prim.Native.Nat.{_+_, _%_, _<_};
 ghost use lib.ListN.{length, getD};
 ghost use Rattle.slices.specs.Changed.{mapAt};
+ghost use Rattle.device.specs.Device.{statusByte};
 ghost use Rattle.chip.specs.Line.{identification, kth, onLine, lineByte, heard, driven, drives, spanOf, fromOn, Responded};
 ghost use Rattle.chip.specs.Table.{onlyIf, instructionIn};
 use crate::table::Drive;
@@ -12,6 +13,7 @@ use crate::table::read_instruction;
 use device::Device;
 use device::is_busy;
 use device::is_deep;
+use device::locks::lock_of;
 use parts::Figures;
 
 // The three identification bytes, then 00.
@@ -24,15 +26,19 @@ fn put_identification(figures: Figures, out: &mut [u8])
 }
 
 // What is driven, over the whole of `out`.
-fn put_driven(how: Drive, figures: Figures, status: u8, array: &[u8], at: usize, out: &mut [u8])
-    ensures { λ _. ⌜ now (out .exit) ≡ mapAt (λ k x. onLine (kth how figures status (now (array .entry)) at k)) (now (out .entry)) ⌝ }
+fn put_driven(how: Drive, figures: Figures, device: Device, array: &[u8], at: u32, out: &mut [u8])
+    ensures { λ _. ⌜ now (out .exit) ≡ mapAt (λ k x. onLine (kth how figures (statusByte device) (device .locks) (now (array .entry)) at k)) (now (out .entry)) ⌝ }
 {
     match how {
         Drive::Nothing => slices::fill(out, 0xFF),
         Drive::Identification => put_identification(figures, out),
-        Drive::Status => slices::fill(out, status),
-        Drive::Array => memory::read_rolling(array, at, out),
+        Drive::Status => slices::fill(out, device.status()),
+        Drive::Array => memory::read_rolling(array, at as usize, out),
         Drive::Signature => slices::fill(out, figures.signature),
+        Drive::Register => {
+            let locks = device.locks;
+            slices::fill(out, lock_of(figures, locks, at))
+        }
     }
 }
 
@@ -66,6 +72,7 @@ fn span_of(how: Drive, from: usize, n: usize) -> Span
         Drive::Status => from_on(from, n),
         Drive::Array => from_on(from, n),
         Drive::Signature => from_on(from, n),
+        Drive::Register => from_on(from, n),
     }
 }
 
@@ -111,19 +118,12 @@ pub(crate) fn respond(
     let row = row_heard(device, asked);
     let how = row.drive;
     let s = span_of(how, row.from, sent.len());
-    let at = asked.address as usize;
+    let at = asked.address;
     let n = slices::least(sent.len(), response.len());
     let start = slices::least(row.from, n);
     let zero = 0;
     slices::fill_part(response, zero, start, 0xFF);
-    put_driven(
-        how,
-        figures,
-        device.status(),
-        array,
-        at,
-        &mut response[start..n],
-    );
+    put_driven(how, figures, device, array, at, &mut response[start..n]);
     s
 }
 
@@ -160,9 +160,16 @@ fn drives(byte: u8) -> LineByte
 }
 
 // Driven byte k, counted from the first.
-fn kth_byte(how: Drive, figures: Figures, status: u8, array: &[u8], at: usize, k: usize) -> LineByte
+fn kth_byte(
+    how: Drive,
+    figures: Figures,
+    device: Device,
+    array: &[u8],
+    at: u32,
+    k: usize,
+) -> LineByte
     requires { ⌜ at + k < 18446744073709551616 ⌝ }
-    ensures { λ r. ⌜ r ≡ lineByte (kth how figures status (now (array .entry)) at k) ⌝ }
+    ensures { λ r. ⌜ r ≡ lineByte (kth how figures (statusByte device) (device .locks) (now (array .entry)) at k) ⌝ }
 {
     match how {
         Drive::Nothing => LineByte {
@@ -170,9 +177,13 @@ fn kth_byte(how: Drive, figures: Figures, status: u8, array: &[u8], at: usize, k
             byte: 0,
         },
         Drive::Identification => drives(identification_byte(figures, k)),
-        Drive::Status => drives(status),
-        Drive::Array => drives(array_byte(array, at + k)),
+        Drive::Status => drives(device.status()),
+        Drive::Array => drives(array_byte(array, at as usize + k)),
         Drive::Signature => drives(figures.signature),
+        Drive::Register => {
+            let locks = device.locks;
+            drives(lock_of(figures, locks, at))
+        }
     }
 }
 
@@ -192,6 +203,5 @@ pub fn driven_byte(device: Device, array: &[u8], before: &[u8]) -> LineByte
         };
     }
     let k = before.len() - from;
-    let at = asked.address as usize;
-    kth_byte(how, figures, device.status(), array, at, k)
+    kth_byte(how, figures, device, array, asked.address, k)
 }

@@ -1,13 +1,13 @@
 // The instruction table: a row for each code, and the address in a transaction.
 ghost use mathlib.Core.Path.{_≡_};
 ghost use Prim.Native.Nat.{_+_, _*_};
-ghost use Rattle.chip.specs.Table.{order, reading, write, unknown, alsoBusy, alsoDeep, onlyIf, rowOf, addressOf, instructionIn};
+ghost use Rattle.chip.specs.Table.{order, reading, write, unknown, alsoBusy, alsoDeep, onlyIf, release, rowOf, addressOf, instructionIn};
 use crate::LONGEST;
 use device::Device;
 use device::cycle::Kind;
 use parts::Figures;
 
-// What an instruction does: keep the record, set or reset the latch, start a cycle, go to deep power-down, leave it.
+// What an instruction does: keep the record, set or reset the latch, start a cycle, go to deep power-down, leave it, write a lock register.
 pub enum Turn {
     Keep,
     Enable,
@@ -15,6 +15,7 @@ pub enum Turn {
     Start(Kind),
     Sleep,
     Wake,
+    Lock,
 }
 
 // What an instruction drives.
@@ -24,6 +25,7 @@ pub enum Drive {
     Status,
     Array,
     Signature,
+    Register,
 }
 
 // A row: what is needed (n from least to most, no further pulses, the latch), whether it is taken while busy and in deep power-down, what it does, what it drives from which byte on.
@@ -77,9 +79,9 @@ impl Row {
         }
     }
 
-    // n from `least` to `most`, no further pulses, the latch; it starts a cycle.
-    fn write(least: usize, most: usize, kind: Kind) -> Self
-        ensures { λ r. ⌜ r ≡ write least most kind ⌝ }
+    // n from `least` to `most`, no further pulses, the latch.
+    fn write(least: usize, most: usize, turn: Turn) -> Self
+        ensures { λ r. ⌜ r ≡ write least most turn ⌝ }
     {
         Row {
             known: true,
@@ -89,7 +91,7 @@ impl Row {
             latch: true,
             busy: false,
             deep: false,
-            turn: Turn::Start(kind),
+            turn,
             drive: Drive::Nothing,
             from: 1,
         }
@@ -137,6 +139,17 @@ impl Row {
     }
 }
 
+// The row of AB.
+fn release(figures: Figures) -> Row
+    ensures { λ r. ⌜ r ≡ release figures ⌝ }
+{
+    if figures.pe {
+        Row::order(Turn::Wake).also_deep()
+    } else {
+        Row::reading(1, Drive::Signature, 4, Turn::Wake).also_deep()
+    }
+}
+
 // The row of a code.
 fn decode(figures: Figures, code: u8) -> Row
     ensures { λ r. ⌜ r ≡ rowOf figures code ⌝ }
@@ -146,16 +159,19 @@ fn decode(figures: Figures, code: u8) -> Row
         0x04 => Row::order(Turn::Disable),
         0x9F => Row::reading(1, Drive::Identification, 1, Turn::Keep).only_if(figures.identifies),
         0x05 => Row::reading(1, Drive::Status, 1, Turn::Keep).also_busy(),
-        0x01 => Row::write(2, 2, Kind::Settings),
+        0x01 => Row::write(2, 2, Turn::Start(Kind::Settings)),
         0x03 => Row::reading(4, Drive::Array, 4, Turn::Keep),
         0x0B => Row::reading(5, Drive::Array, 5, Turn::Keep),
-        0x02 => Row::write(5, LONGEST, Kind::Page),
-        0xD8 => Row::write(4, 4, Kind::Sector),
-        0xC7 => Row::write(1, 1, Kind::All),
+        0x02 => Row::write(5, LONGEST, Turn::Start(Kind::Page)),
+        0xD8 => Row::write(4, 4, Turn::Start(Kind::Sector)),
+        0xC7 => Row::write(1, 1, Turn::Start(Kind::All)),
         0xB9 => Row::order(Turn::Sleep).only_if(figures.sleeps),
-        0xAB => Row::reading(1, Drive::Signature, 4, Turn::Wake)
-            .also_deep()
-            .only_if(figures.sleeps),
+        0xAB => release(figures).only_if(figures.sleeps),
+        0x0A => Row::write(5, LONGEST, Turn::Start(Kind::PageWrite)).only_if(figures.pe),
+        0xDB => Row::write(4, 4, Turn::Start(Kind::PageErase)).only_if(figures.pe),
+        0x20 => Row::write(4, 4, Turn::Start(Kind::Subsector)).only_if(figures.pe),
+        0xE5 => Row::write(5, 5, Turn::Lock).only_if(figures.pe),
+        0xE8 => Row::reading(4, Drive::Register, 4, Turn::Keep).only_if(figures.pe),
         _ => Row::unknown(),
     }
 }

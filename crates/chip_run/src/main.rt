@@ -1,6 +1,7 @@
-// Runs document 01's worked cases, and cases of our own, on the four parts whose arrays fit the stack, through both entries. What a script says stands in `steps`.
+// Runs document 01's worked cases, and cases of our own, on the five parts whose arrays fit the stack, through both entries. What a script says stands in `steps`.
 // K14 is not here: it needs the 16 MiB of the M25P128, and is proved.
 mod long;
+mod m25pe40;
 mod passing;
 mod protected;
 mod refused;
@@ -21,11 +22,11 @@ fn m25p10a(name: &[u8], part: u32, script: &[u8]) {
     steps::case(name, part, &mut a, &mut b, script);
 }
 
-// The same on the M25P40.
-fn m25p40(name: &[u8], script: &[u8]) {
+// The same on an M25P40, part 2, or an M25PE40, part 6.
+pub(crate) fn m25p40(name: &[u8], part: u32, script: &[u8]) {
     let mut a = [0; 524_288];
     let mut b = [0; 524_288];
-    steps::case(name, 2, &mut a, &mut b, script);
+    steps::case(name, part, &mut a, &mut b, script);
 }
 
 // K1 to K7.
@@ -42,7 +43,7 @@ fn worked_first() {
         b"x 1 0 02000010F0;w 3;x 1 0 06;x 1 0 02000010AA;w 3;a 000010",
     );
     // 257 data bytes at 000000, first 11, last 22, between them FF: byte 0 is 22, not 00
-    long::last_wins(b"K5", 0, 0x11, 0x22);
+    bench(b"K5", b"y 1 0 0200000011 FF 22;= 0 0 1;a 000000;a 000100");
     // reading two bytes from 000FFF gives byte 4,095, then byte 0
     bench(
         b"K6",
@@ -79,7 +80,10 @@ fn worked_last() {
 // The readings that look right and are not.
 fn wrong_readings() {
     // anding all data of one long program into its slots: the last byte wins
-    long::last_wins(b"last-wins", 0xFE, 0x0F, 0xF0);
+    bench(
+        b"last-wins",
+        b"y 1 0 020000FE0F FF F0;= 0 0 1;a 0000FE;a 0001FE",
+    );
     // letting a program run on into the next page: F0 stands at 000000, and 000100 stays FF
     bench(
         b"no-run-on",
@@ -143,7 +147,11 @@ fn missing() {
         b"missing-ignored",
         b"x 1 0 02000C1000;x 1 0 02000C10FF;w 3;x 1 0 02000C10FF;= 0 1 1;x 1 0 02000C10FF;x 1 1 02000C10FF;= 0 0 1;x 1 0 02000C10FF",
     );
-    long::rewritten();
+    // all of page 0 is 00, then 257 data bytes FF but for the last, which is 0F: 255 times eight bits are missing, and four
+    bench(
+        b"missing-long",
+        b"y 1 0 0200000000 00 00;= 0 0 1;y 1 0 02000000FF FF 0F",
+    );
 }
 
 // Power lost in mid-cycle, and outside a cycle.
@@ -272,26 +280,31 @@ fn on_m25p40() {
     // 20 20 13, then 00; the signature is 12
     m25p40(
         b"M25P40-identification",
+        2,
         b"x 1 0 9F0000000000;x 1 0 AB00000000",
     );
     // WRSR takes bits 4 to 2: BP 7 of FF, BP 4 of 10
     m25p40(
         b"M25P40-bit-4",
+        2,
         b"x 1 0 01FF;x 1 0 0500;w 2;x 1 0 0500;= 0 0 1;x 1 0 0110;w 2;x 1 0 0500",
     );
     // FFFFFF is the last byte, 07FFFF
     m25p40(
         b"M25P40-roll-over",
+        2,
         b"x 1 0 0207FFFF5A;= 0 0 1;x 1 0 02000000C3;w 3;x 1 0 03FFFFFF0000;x 1 0 0BFFFFFF000000",
     );
     // BP 1 protects from 070000 on
     m25p40(
         b"M25P40-protected",
+        2,
         b"= 0 1 1;x 1 0 0206FFFF00;= 0 1 1;x 1 0 0207000000;x 1 0 C7",
     );
     // all eight sectors are erased
     m25p40(
         b"M25P40-bulk-erase",
+        2,
         b"x 1 0 0207000000;= 0 0 1;x 1 0 C7;w 9;a 070000;s",
     );
 }
@@ -307,6 +320,7 @@ fn protected_areas() {
     let mut e = [0; 524_288];
     let mut f = [0; 524_288];
     protected::table(b"protected M25P40", 2, &mut e, &mut f, 8, 65_536, 8);
+    protected::table(b"protected M25PE40", 6, &mut e, &mut f, 8, 65_536, 8);
 }
 
 fn main() {
@@ -321,5 +335,6 @@ fn main() {
     on_m25p10a();
     on_older_m25p10a();
     on_m25p40();
+    m25pe40::cases();
     protected_areas();
 }

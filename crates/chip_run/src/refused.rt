@@ -33,18 +33,19 @@ fn delivery(name: &[u8], part: u32, a: &mut [u8], program: u32, write_status: u3
 pub(crate) fn deliveries() {
     let mut a = [0; 4096];
     let mut short = [0; 4095];
-    // part above 5: 1
-    delivery(b"delivery-part-6", 6, &mut a, 3, 2);
+    // part above 6: 1
+    delivery(b"delivery-part-7", 7, &mut a, 3, 2);
     // a part number that is a known one in its low byte: 1
     delivery(b"delivery-part-256", 256, &mut a, 3, 2);
     // the array's length differs from the part's: 2
+    delivery(b"delivery-part-6", 6, &mut a, 3, 2);
     delivery(b"delivery-length", 0, &mut short, 3, 2);
     delivery(b"delivery-other-part", 1, &mut a, 3, 2);
     // a duration outside 1 to 1,000,000: 7
     delivery(b"delivery-duration-0", 0, &mut a, 0, 2);
     delivery(b"delivery-duration-1000001", 0, &mut a, 3, 1_000_001);
     // 1 before 2, 2 before 7
-    delivery(b"delivery-part-first", 6, &mut short, 0, 2);
+    delivery(b"delivery-part-first", 7, &mut short, 0, 2);
     delivery(b"delivery-length-next", 0, &mut short, 0, 2);
     // both ends of the durations: 0
     delivery(b"delivery-ends", 0, &mut a, 1, 1_000_000);

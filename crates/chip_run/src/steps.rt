@@ -3,6 +3,7 @@
 // A script is a run of steps parted by semicolons:
 //   x W bits hex   one transaction: prints the answer (number, first, count, bits missing), the response, and three marks:
 //                  r the record changed, a the array changed, b the response changed from byte n on
+//   y W bits head byte last   the same of 261 bytes: five of the head, 255 times the byte, the last
 //   w t            waits t ticks, one digit: prints the answer, and a where the array changed
 //   p              powers up: prints the same
 //   l mask yes     power is lost and comes back, with this byte in each place of the mask, and yes for 1: prints the same
@@ -20,6 +21,7 @@ use device::Device;
 use device::Mode;
 use device::cycle::Cycle;
 use device::cycle::Kind;
+use device::locks::REGISTERS;
 use slices::byte_at;
 
 // The record of each entry, and whether all was the same so far.
@@ -51,7 +53,20 @@ fn kind_number(kind: Kind) -> u8 {
         Kind::Sector => 2,
         Kind::All => 3,
         Kind::Settings => 4,
+        Kind::PageWrite => 5,
+        Kind::PageErase => 6,
+        Kind::Subsector => 7,
     }
+}
+
+// Whether two sets of slots are the same.
+fn same_slots(a: [u8; 256], b: [u8; 256]) -> bool {
+    check::same(&a, &b)
+}
+
+// Whether the lock registers of two records are the same.
+fn same_locks(a: [u8; REGISTERS], b: [u8; REGISTERS]) -> bool {
+    check::same(&a, &b)
 }
 
 // Whether two remembered cycles are the same, field by field.
@@ -61,8 +76,9 @@ fn same_cycle(c: Cycle, d: Cycle) -> bool {
     let kinds = kind_number(k) == kind_number(l);
     let slots = c.slots;
     let other = d.slots;
+    let bytes = same_slots(slots, other);
     let settings = (c.bp == d.bp) & same_bool(c.srwd, d.srwd);
-    kinds & settings & (c.address == d.address) & check::same(&slots, &other)
+    kinds & settings & bytes & (c.address == d.address) & (c.named == d.named)
 }
 
 // Whether two records are the same, field by field.
@@ -75,7 +91,11 @@ pub(crate) fn same_record(d: Device, e: Device) -> bool {
     let long = (d.bulk_erase == e.bulk_erase) & (d.write_status == e.write_status);
     let c = d.cycle;
     let cycles = same_cycle(c, e.cycle);
-    modes & bits & short & long & cycles & (d.part == e.part) & (d.bp == e.bp)
+    let locks = d.locks;
+    let other = e.locks;
+    let registers = same_locks(locks, other);
+    let names = (d.part == e.part) & (d.bp == e.bp);
+    modes & bits & short & long & cycles & registers & names
 }
 
 // Whether two answers are the same.
@@ -208,6 +228,25 @@ fn send(
     exchange(t, a, b, slices::front(sent, n), pulses as u32, w, r, s)
 }
 
+// A transaction of 261 bytes.
+fn send_long(
+    t: Two,
+    script: &[u8],
+    at: usize,
+    a: &mut [u8],
+    b: &mut [u8],
+    r: &mut [u8],
+    s: &mut [u8],
+) -> Two {
+    let w = byte_at(script, text::after(at, 2)) == b'1';
+    let pulses = text::digit(byte_at(script, text::after(at, 4)));
+    let mut sent = [0; 261];
+    slices::fill(&mut sent, text::pair_at(script, text::after(at, 17)));
+    text::read_bytes(script, text::after(at, 6), text::after(at, 16), &mut sent);
+    sent[260] = text::pair_at(script, text::after(at, 20));
+    exchange(t, a, b, &sent, pulses as u32, w, r, s)
+}
+
 // A record that runs no cycle with other settings and another latch, in standby.
 pub(crate) fn settings(d: Device, srwd: bool, bp: u8, latch: bool) -> Device {
     let settled = d.settled(srwd, bp);
@@ -273,6 +312,9 @@ fn step(
     let letter = byte_at(script, at);
     if letter == b'x' {
         return send(t, script, at, end, a, b, sent, r, s);
+    }
+    if letter == b'y' {
+        return send_long(t, script, at, a, b, r, s);
     }
     if letter == b'w' {
         let ticks = text::digit(byte_at(script, text::after(at, 2)));
@@ -360,8 +402,8 @@ pub(crate) fn finish(t: Two) {
 // A whole case on a part whose array is lent twice.
 pub(crate) fn case(name: &[u8], part: u32, a: &mut [u8], b: &mut [u8], script: &[u8]) {
     let mut sent = [0; 32];
-    let mut r = [0; 40];
-    let mut s = [0; 40];
+    let mut r = [0; 300];
+    let mut s = [0; 300];
     let start = begin(name, part, a, b);
     let t = steps(start, script, a, b, &mut sent, &mut r, &mut s);
     finish(t);

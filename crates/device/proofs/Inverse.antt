@@ -2,28 +2,29 @@
 -- Assumes nothing.
 use mathlib.Core.Path.{_≡_, refl, sym, ap, _∙_}
 use mathlib.Core.Bool.{Bool, true, false, cond, _&&_}
-use mathlib.Core.List.{List}
+use mathlib.Core.List.{List, _++_}
 use Prim.Native.Nat.{ℕ, _≤_, _<_}
 use native.Mathlib.Omega.{arith}
-use lib.Dec.{eqb}
-use lib.ListN.{length}
-use borrow.Author.Tests.{eqb-true, ltb-true}
+use lib.Dec.{eqb, leb}
+use lib.ListN.{length, getD, take, drop}
+use lib.Seq.{drop-at, take-at, drop-drop, getD-drop}
+use borrow.Author.Tests.{eqb-true, leb-true, ltb-true}
 use Rattle.slices.specs.Bytes.{word, wordAt}
 use Rattle.slices.proofs.Choices.{both}
 use Rattle.slices.proofs.Sames.{same-self, same-is}
-use Rattle.slices.proofs.Words.{word-number}
+use Rattle.slices.proofs.Words.{word-number, word-drop}
 use Rattle.parts.specs.Parts.{figuresOf}
 use Rattle.parts.proofs.Laws.{sane}
 use Rattle.device.specs.declared.Mode.{Mode}
 use Rattle.device.specs.declared.Mode.the-variants.{Standby, Busy, Deep}
 use Rattle.device.specs.declared.cycle.Kind.{Kind}
-use Rattle.device.specs.declared.cycle.Kind.the-variants.{Idle, Page, Sector, All, Settings}
+use Rattle.device.specs.declared.cycle.Kind.the-variants.{Idle, Page, Sector, All, Settings, PageWrite, PageErase, Subsector}
 use Rattle.device.specs.declared.Device.{Device}
-use Rattle.device.specs.Cycles.{bothSame}
+use Rattle.device.specs.Cycles.{bothSame, namedSound}
 use Rattle.device.specs.Device.{sound, modeSound, rangedOf, latchAt, isBusy}
-use Rattle.device.specs.Packing.{packedLength, bit, modeNumber, ticksOf, modeOf, kindNumber, kindOf, frontOf, packOf, fieldsOf, formed, unpackAnswer, unpackOf}
-use Rattle.device.proofs.Calls.{length-pack, unpacked-good}
-use Rattle.device.proofs.Sound.{Sound, sound-has, ranged-most, cycle-has, slots-long}
+use Rattle.device.specs.Packing.{packedLength, frontLength, namedPlace, locksPlace, bit, modeNumber, ticksOf, modeOf, kindNumber, kindOf, frontOf, packOf, fieldsOf, formed, unpackAnswer, unpackOf}
+use Rattle.device.proofs.Calls.{length-front, length-pack, unpacked-good}
+use Rattle.device.proofs.Sound.{Sound, sound-has, ranged-most, cycle-has, slots-long, locks-long}
 
 -- a bit
 bit-back : (x : Bool) → eqb (bit x) 1 ≡ x
@@ -45,6 +46,9 @@ kind-back Page = refl
 kind-back Sector = refl
 kind-back All = refl
 kind-back Settings = refl
+kind-back PageWrite = refl
+kind-back PageErase = refl
+kind-back Subsector = refl
 
 -- the address of a sound record's cycle
 address-back : (d : Device) → Sound d → wordAt (word (d .cycle .address)) 0 ≡ d .cycle .address
@@ -52,10 +56,40 @@ address-back d s =
     let l : d .cycle .address < figuresOf (d .part) .bytes = ltb-true _ _ (cycle-has (d .cycle) (figuresOf (d .part)) (isBusy (d .mode)) (s .cycle-fits) .within) in
     word-number (d .cycle .address) (omega (arith, sane (d .part) .few))
 
+-- the number of bytes that a sound record's cycle named
+named-most : (n : ℕ) (used : Bool) → namedSound n used ≡ true → n ≤ 256
+unfolding namedSound
+named-most n true h = leb-true n 256 (both (leb 1 n) (leb n 256) h .1)
+named-most n false h = let e : n ≡ 0 = eqb-true n 0 h in omega arith
+
+named-back : (d : Device) → Sound d → wordAt (word (d .cycle .named)) 0 ≡ d .cycle .named
+named-back d s =
+    let l : d .cycle .named ≤ 256 = named-most (d .cycle .named) _ (cycle-has (d .cycle) (figuresOf (d .part)) (isBusy (d .mode)) (s .cycle-fits) .named-used) in
+    word-number (d .cycle .named) (omega arith)
+
+-- what stands behind the front
+module _ (front slots w locks : List ℕ) (l : length front ≡ frontLength) (m : length slots ≡ 256) (n : length w ≡ 4) where
+  behind : drop frontLength (front ++ (slots ++ (w ++ locks))) ≡ slots ++ (w ++ locks)
+  behind = drop-at front (slots ++ (w ++ locks)) frontLength l
+
+  slots-there : take 256 (drop frontLength (front ++ (slots ++ (w ++ locks)))) ≡ slots
+  slots-there = rw behind (take-at slots (w ++ locks) 256 m)
+
+  word-there : drop namedPlace (front ++ (slots ++ (w ++ locks))) ≡ w ++ locks
+  word-there = sym (drop-drop 256 frontLength (front ++ (slots ++ (w ++ locks)))) ∙ ap (drop 256) behind ∙ drop-at slots (w ++ locks) 256 m
+
+  locks-there : drop locksPlace (front ++ (slots ++ (w ++ locks))) ≡ locks
+  locks-there = sym (drop-drop 4 namedPlace (front ++ (slots ++ (w ++ locks)))) ∙ ap (drop 4) word-there ∙ drop-at w locks 4 n
+
+named-pack : (d : Device) → Sound d → length (d .cycle .slots) ≡ 256 → wordAt (packOf d) namedPlace ≡ d .cycle .named
+unfolding packOf
+named-pack d s m =
+    word-drop namedPlace (packOf d) ∙ ap (λ (t : List ℕ). wordAt t 0) (word-there (frontOf d) (d .cycle .slots) (word (d .cycle .named)) (d .locks) (length-front d) m refl) ∙ named-back d s
+
 -- the fields of a sound record's packing are its own
-fields-pack : (d : Device) → Sound d → fieldsOf (packOf d) ≡ d
+fields-pack : (d : Device) → Sound d → length (d .cycle .slots) ≡ 256 → fieldsOf (packOf d) ≡ d
 unfolding fieldsOf packOf frontOf
-fields-pack d s = λ i.
+fields-pack d s m = λ i.
     record {
       part = d .part;
       bp = d .bp;
@@ -70,10 +104,12 @@ fields-pack d s = λ i.
           record {
             kind = kind-back (d .cycle .kind) i;
             address = address-back d s i;
-            slots = d .cycle .slots;
+            slots = slots-there (frontOf d) (d .cycle .slots) (word (d .cycle .named)) (d .locks) refl m refl i;
             bp = d .cycle .bp;
             srwd = bit-back (d .cycle .srwd) i;
+            named = named-pack d s m i;
           };
+      locks = locks-there (frontOf d) (d .cycle .slots) (word (d .cycle .named)) (d .locks) refl m refl i;
     }
 
 -- so it is well formed
@@ -84,9 +120,9 @@ formed-pack d e = rw e (same-self (packOf d))
 -- THEOREM: a sound record's packing is unpacked to that record
 pub unpack-pack : (d : Device) → sound d ≡ true → unpackOf (packOf d) ≡ record { answer = 0; device = d }
 unpack-pack d h =
-    let e : fieldsOf (packOf d) ≡ d = fields-pack d (sound-has d h) in
+    let e : fieldsOf (packOf d) ≡ d = fields-pack d (sound-has d h) (slots-long d h) in
     let t : formed (packOf d) && sound (fieldsOf (packOf d)) ≡ true = simp (formed-pack d e, e, h) in
-    unpacked-good (packOf d) (length-pack d (slots-long d h)) t ∙ rw e
+    unpacked-good (packOf d) (length-pack d (slots-long d h) (locks-long d h)) t ∙ rw e
 
 -- what bytes are that unpack answers 0
 pub record Opened (b : List ℕ) : Type 0 where

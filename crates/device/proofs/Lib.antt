@@ -1,4 +1,5 @@
--- Laws of the record, of time and power, and of the packing.
+-- Laws of the lock registers, of the record, of time and power, and of the packing.
+pub mod Registers
 pub mod Calls
 pub mod Sound
 pub mod Timed

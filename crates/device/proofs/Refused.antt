@@ -5,21 +5,26 @@ use mathlib.Core.List.{List, [], _∷_, _++_}
 use Prim.Native.Nat.{ℕ}
 use lib.ListN.{set, take, replicate}
 use Rattle.parts.specs.Parts.{figuresOf}
-use Rattle.device.specs.Cycles.{noSlots, slotsSound, cycleSound}
+use Rattle.device.specs.Locks.{locksSound}
+use Rattle.device.specs.Cycles.{noSlots, slotsSound, namedSound, cycleSound}
 use Rattle.device.specs.Device.{sound, latchAt}
 use Rattle.device.specs.Packing.{frontOf, packOf, formed, fieldsOf, unpackAnswer}
 
 -- the bench part in standby with durations 3, 5, 9, 2
 unfoldable pub accepted : List ℕ
-accepted = (0 ∷ 0 ∷ 0 ∷ 0 ∷ 0 ∷ 0 ∷ 0 ∷ 0 ∷ 0 ∷ 0 ∷ 0 ∷ 0 ∷ 3 ∷ 0 ∷ 0 ∷ 0 ∷ 5 ∷ 0 ∷ 0 ∷ 0 ∷ 9 ∷ 0 ∷ 0 ∷ 0 ∷ 2 ∷ 0 ∷ 0 ∷ 0 ∷ []) ++ replicate 264 0
+accepted = (0 ∷ 0 ∷ 0 ∷ 0 ∷ 0 ∷ 0 ∷ 0 ∷ 0 ∷ 0 ∷ 0 ∷ 0 ∷ 0 ∷ 3 ∷ 0 ∷ 0 ∷ 0 ∷ 5 ∷ 0 ∷ 0 ∷ 0 ∷ 9 ∷ 0 ∷ 0 ∷ 0 ∷ 2 ∷ 0 ∷ 0 ∷ 0 ∷ []) ++ replicate 276 0
 
 -- the same with 7 ticks left in a cycle of a kind, the latch set
 unfoldable pub busy-with : ℕ → List ℕ
 busy-with kind = set (set (set (set accepted 3 1) 4 1) 8 7) 28 kind
 
+-- the same on part 6
+unfoldable pub pe-with : ℕ → List ℕ
+pe-with kind = set (busy-with kind) 0 6
+
 pub record Refusals : Type 0 where
   pub as-is : unpackAnswer accepted ≡ 0
-  pub part : unpackAnswer (set accepted 0 6) ≡ 6
+  pub part : unpackAnswer (set accepted 0 7) ≡ 6
   pub bp : unpackAnswer (set accepted 1 4) ≡ 6
   pub srwd : unpackAnswer (set accepted 2 2) ≡ 6
   pub latch : unpackAnswer (set accepted 3 2) ≡ 6
@@ -61,10 +66,33 @@ pub record Refusals : Type 0 where
   pub deep-ticks : unpackAnswer (set (set accepted 4 2) 11 1) ≡ 6
   pub no-duration : unpackAnswer (set accepted 12 0) ≡ 6
   pub long-duration : unpackAnswer (set accepted 15 1) ≡ 6
-  -- the packing without the cycle
+  -- part 6: its lock registers, its kinds of cycle, the number of bytes named
+  pub pe : unpackAnswer (set accepted 0 6) ≡ 0
+  pub register : unpackAnswer (set (set accepted 0 6) 303 3) ≡ 0
+  pub register-four : unpackAnswer (set (set accepted 0 6) 296 4) ≡ 6
+  pub register-elsewhere : unpackAnswer (set accepted 296 1) ≡ 6
+  pub page-write : unpackAnswer (set (pe-with 5) 292 1) ≡ 0
+  pub page-write-all : unpackAnswer (set (pe-with 5) 293 1) ≡ 0
+  pub named-none : unpackAnswer (pe-with 5) ≡ 6
+  pub named-many : unpackAnswer (set (set (pe-with 5) 292 1) 293 1) ≡ 6
+  pub named-far : unpackAnswer (set (set (pe-with 5) 292 1) 295 1) ≡ 6
+  pub page-write-bp : unpackAnswer (set (set (pe-with 5) 292 1) 29 1) ≡ 6
+  pub page-write-elsewhere : unpackAnswer (set (set (pe-with 5) 292 1) 0 2) ≡ 6
+  pub page-erase : unpackAnswer (pe-with 6) ≡ 0
+  pub page-erase-named : unpackAnswer (set (pe-with 6) 292 1) ≡ 6
+  pub page-erase-slot : unpackAnswer (set (pe-with 6) 36 1) ≡ 6
+  pub page-erase-elsewhere : unpackAnswer (set (pe-with 6) 0 2) ≡ 6
+  pub subsector : unpackAnswer (set (pe-with 7) 34 7) ≡ 0
+  pub subsector-outside : unpackAnswer (set (pe-with 7) 34 8) ≡ 6
+  pub subsector-elsewhere : unpackAnswer (set (pe-with 7) 0 2) ≡ 6
+  pub kind-eight : unpackAnswer (pe-with 8) ≡ 6
+  pub program-named : unpackAnswer (set (busy-with 1) 292 1) ≡ 6
+  pub pe-deep : unpackAnswer (set (set accepted 0 6) 4 2) ≡ 0
+  -- the packing without the cycle, and without what comes behind the slots
+  pub old-length : unpackAnswer (take 292 accepted) ≡ 8
   pub without-cycle : unpackAnswer (take 28 accepted) ≡ 8
   pub short : unpackAnswer [] ≡ 8
 
 pub refusals : Refusals
-unfolding accepted busy-with unpackAnswer formed packOf frontOf sound cycleSound slotsSound noSlots fieldsOf figuresOf latchAt
-refusals = record { as-is = refl; part = refl; bp = refl; srwd = refl; latch = refl; mode = refl; busy = refl; busy-without-ticks = refl; busy-without-latch = refl; last-tick-with-latch = refl; last-tick = refl; idle-kind = refl; idle-bp = refl; idle-srwd = refl; idle-address = refl; idle-slot = refl; deep-kind = refl; no-kind = refl; program = refl; program-outside = refl; program-bp = refl; program-srwd = refl; sector = refl; sector-outside = refl; sector-slot = refl; bulk-address = refl; bulk-slot = refl; settings = refl; settings-bp = refl; settings-srwd = refl; settings-address = refl; kind = refl; kind-padding = refl; deep = refl; deep-m25p128 = refl; padding = refl; padding-2 = refl; padding-3 = refl; idle-ticks = refl; deep-ticks = refl; no-duration = refl; long-duration = refl; without-cycle = refl; short = refl }
+unfolding accepted busy-with pe-with unpackAnswer formed packOf frontOf sound cycleSound slotsSound noSlots namedSound locksSound fieldsOf figuresOf latchAt
+refusals = record { as-is = refl; part = refl; bp = refl; srwd = refl; latch = refl; mode = refl; busy = refl; busy-without-ticks = refl; busy-without-latch = refl; last-tick-with-latch = refl; last-tick = refl; idle-kind = refl; idle-bp = refl; idle-srwd = refl; idle-address = refl; idle-slot = refl; deep-kind = refl; no-kind = refl; program = refl; program-outside = refl; program-bp = refl; program-srwd = refl; sector = refl; sector-outside = refl; sector-slot = refl; bulk-address = refl; bulk-slot = refl; settings = refl; settings-bp = refl; settings-srwd = refl; settings-address = refl; kind = refl; kind-padding = refl; deep = refl; deep-m25p128 = refl; padding = refl; padding-2 = refl; padding-3 = refl; idle-ticks = refl; deep-ticks = refl; no-duration = refl; long-duration = refl; pe = refl; register = refl; register-four = refl; register-elsewhere = refl; page-write = refl; page-write-all = refl; named-none = refl; named-many = refl; named-far = refl; page-write-bp = refl; page-write-elsewhere = refl; page-erase = refl; page-erase-named = refl; page-erase-slot = refl; page-erase-elsewhere = refl; subsector = refl; subsector-outside = refl; subsector-elsewhere = refl; kind-eight = refl; program-named = refl; pe-deep = refl; old-length = refl; without-cycle = refl; short = refl }

@@ -16,7 +16,7 @@ use Rattle.device.specs.declared.Device.{Device}
 use Rattle.device.specs.Chip.{Chip, chip}
 use Rattle.device.specs.Cycles.{usesOf, bothSame, touched, cut}
 use Rattle.device.specs.Device.{latchAt, moded, latched, settled, remembering, running, ended, rangedOf, modeSound, sound, isBusy}
-use Rattle.device.specs.Time.{afterCycle, finished, lost, waitedIn, waited}
+use Rattle.device.specs.Time.{afterCycle, finished, unlocked, lost, waitedIn, waited}
 use Rattle.device.proofs.Sound.{sound-has, waited-sound}
 
 -- ---- when the latch falls
@@ -40,7 +40,7 @@ busy-latch d left h e = same-true (d .latch) (ltb 1 left) (busy-fits d left h e 
 pub as-running : (d : Device) (left : ℕ) → sound d ≡ true → d .mode ≡ Busy left → d ≡ running d left
 unfolding running moded latchAt
 as-running d left h e =
-    let x : _≡_ {A = Device} (record { part = d .part; bp = d .bp; srwd = d .srwd; latch = d .latch; mode = d .mode; program = d .program; «sector_erase» = d .«sector_erase»; «bulk_erase» = d .«bulk_erase»; «write_status» = d .«write_status»; cycle = d .cycle }) (running d left) = rw (busy-latch d left h e, e) in
+    let x : _≡_ {A = Device} (record { part = d .part; bp = d .bp; srwd = d .srwd; latch = d .latch; mode = d .mode; program = d .program; «sector_erase» = d .«sector_erase»; «bulk_erase» = d .«bulk_erase»; «write_status» = d .«write_status»; cycle = d .cycle; locks = d .locks }) (running d left) = rw (busy-latch d left h e, e) in
     x
 
 -- ---- when the effect comes
@@ -80,16 +80,17 @@ pub record Early (was is : Chip) : Type 0 where
   pub bp : is .device .bp ≡ was .device .bp
   pub srwd : is .device .srwd ≡ was .device .srwd
   pub cycle : is .device .cycle ≡ was .device .cycle
+  pub locks : is .device .locks ≡ was .device .locks
 
--- THEOREM: a wait that does not reach the last tick changes nothing of the array, the settings and the remembered cycle
+-- THEOREM: a wait that does not reach the last tick changes nothing of the array, the settings, the remembered cycle and the lock registers
 pub waited-early : (c : Chip) (t : ℕ) → endsIn (c .device .mode) t ≡ false → Early c (waited c t)
 unfolding waited running moded
 waited-early c t h = go (c .device .mode) h
   where
     go : (m : Mode) → endsIn m t ≡ false → Early c (waitedIn m c t)
-    go Standby e = record { array = refl; bp = refl; srwd = refl; cycle = refl }
-    go (Busy left) e = rw (lt-ltb t left (leb-false left t e)) (record { array = refl; bp = refl; srwd = refl; cycle = refl })
-    go Deep e = record { array = refl; bp = refl; srwd = refl; cycle = refl }
+    go Standby e = record { array = refl; bp = refl; srwd = refl; cycle = refl; locks = refl }
+    go (Busy left) e = rw (lt-ltb t left (leb-false left t e)) (record { array = refl; bp = refl; srwd = refl; cycle = refl; locks = refl })
+    go Deep e = record { array = refl; bp = refl; srwd = refl; cycle = refl; locks = refl }
 
 -- ---- what does not depend on the latch
 
@@ -108,7 +109,7 @@ finish-unread d a l = ap (λ (n : Device). chip n (mapAt (touched (figuresOf (d 
 
 pub loss-unread : (d : Device) (a mask : List ℕ) (l told : Bool) → lost (chip (latched d l) a) mask told ≡ lost (chip d a) mask told
 unfolding lost latched
-loss-unread d a mask l told = ap (λ (n : Device). chip n (mapAt (cut (figuresOf (d .part)) (d .cycle) mask) a)) (over-unread d l told)
+loss-unread d a mask l told = ap (λ (n : Device). chip (unlocked n) (mapAt (cut (figuresOf (d .part)) (d .cycle) mask) a)) (over-unread d l told)
 
 -- where a wait leads in a cycle does not depend on the latch before it
 pub wait-unread : (d : Device) (a : List ℕ) (l : Bool) (t : ℕ) → isBusy (d .mode) ≡ true → waited (chip (latched d l) a) t ≡ waited (chip d a) t

@@ -6,14 +6,16 @@ use mathlib.Core.List.{List, [], _∷_}
 use Prim.Native.Nat.{ℕ}
 use lib.ListN.{replicate}
 use Rattle.slices.specs.Changed.{mapAt}
-use Rattle.memory.specs.Memory.{programmed, erased, cutPage, cutSector}
+use Rattle.memory.specs.Memory.{programmed, named, replaced, erased, cutPage, cutWrite, cutSector}
 use Rattle.parts.specs.Parts.{figuresOf}
+use Rattle.device.specs.declared.cycle.Kind.the-variants.{Sector, PageErase, Subsector}
 use Rattle.device.specs.declared.cycle.Cycle.{Cycle}
 use Rattle.device.specs.declared.Device.{Device}
 use Rattle.device.specs.Chip.{Chip, chip}
-use Rattle.device.specs.Cycles.{noSlots, noCycle, pageCycle, sectorCycle, allCycle, settingsCycle, touched, cut}
-use Rattle.device.specs.Device.{latchAt, moded, latched, settled, remembering, running, started, ended, delivered, statusByte}
-use Rattle.device.specs.Time.{afterCycle, finished, lost, waited}
+use Rattle.device.specs.Cycles.{noSlots, noCycle, pageCycle, writeCycle, eraseCycle, allCycle, settingsCycle, touched, cut}
+use Rattle.device.specs.Locks.{noLocks}
+use Rattle.device.specs.Device.{latchAt, locked, moded, latched, settled, remembering, running, started, ended, delivered, statusByte}
+use Rattle.device.specs.Time.{afterCycle, finished, unlocked, poweredUp, lost, waited}
 
 unfoldable bench-chip : Device
 bench-chip = delivered 0 3 5 9 2
@@ -39,7 +41,7 @@ record Worked : Type 0 where
   last-write-tick : shown (waited (begun (settingsCycle true 3) 2) 1) ≡ 0x01
   written : shown (waited (begun (settingsCycle true 3) 2) 2) ≡ 0x8C
   -- power-up completes them; a loss does on yes, and leaves the old ones on no
-  powered : shown (finished (begun (settingsCycle true 3) 2)) ≡ 0x8C
+  powered : shown (poweredUp (begun (settingsCycle true 3) 2)) ≡ 0x8C
   lost-told : shown (lost (begun (settingsCycle true 3) 2) pattern true) ≡ 0x8C
   lost-not : shown (lost (begun (settingsCycle true 3) 2) pattern false) ≡ 0x00
   -- a program started, after 1 tick, after 2, after 1 more
@@ -52,12 +54,18 @@ record Worked : Type 0 where
   -- cut: each byte and (slot or mask)
   cut-program : lost (begun (pageCycle 1 (replicate 256 0x0F)) 3) pattern false .array ≡ 0x3F ∷ 0x30 ∷ 0x0F ∷ []
   -- an erase cut: each byte or the mask
-  cut-sector : lost (begun (sectorCycle 1) 5) pattern false .array ≡ 0xFF ∷ 0xFC ∷ 0x3F ∷ []
+  cut-sector : lost (begun (eraseCycle Sector 1) 5) pattern false .array ≡ 0xFF ∷ 0xFC ∷ 0x3F ∷ []
   cut-bulk : lost (begun allCycle 9) pattern false .array ≡ 0xFF ∷ 0xFC ∷ 0x3F ∷ []
+  -- a page write of the first two bytes: completed, and cut
+  page-write : waited (begun (writeCycle 0 pattern 2) 3) 3 .array ≡ 0x3C ∷ 0x3C ∷ 0x0F ∷ []
+  cut-write : lost (begun (writeCycle 0 pattern 2) 3) pattern false .array ≡ 0xFF ∷ 0xFC ∷ 0x0F ∷ []
+  -- a page erase and a subsector erase
+  page-erase : waited (begun (eraseCycle PageErase 1) 3) 3 .array ≡ 0xFF ∷ 0xFF ∷ 0xFF ∷ []
+  cut-subsector : lost (begun (eraseCycle Subsector 1) 5) pattern false .array ≡ 0xFF ∷ 0xFC ∷ 0x3F ∷ []
   -- standby, latch reset, no cycle: as delivered, but for the settings
   rested : lost (begun allCycle 9) pattern false .device ≡ bench-chip
-  kept-settings : finished (chip (latched (settled bench-chip true 3) true) []) .device ≡ settled bench-chip true 3
+  kept-settings : poweredUp (chip (latched (settled bench-chip true 3) true) []) .device ≡ settled bench-chip true 3
 
 worked : Worked
-unfolding bench-chip begun delivered noCycle noSlots latchAt moded latched settled remembering running started ended waited finished lost afterCycle statusByte pageCycle sectorCycle allCycle settingsCycle touched cut mapAt programmed erased cutPage cutSector figuresOf
-worked = record { fresh = refl; enabled = refl; writing = refl; last-write-tick = refl; written = refl; powered = refl; lost-told = refl; lost-not = refl; programming = refl; last-tick = refl; programmed = refl; early = refl; done = refl; cut-program = refl; cut-sector = refl; cut-bulk = refl; rested = refl; kept-settings = refl }
+unfolding bench-chip begun delivered noCycle noSlots noLocks latchAt moded latched settled remembering running started ended waited finished lost afterCycle unlocked poweredUp locked statusByte pageCycle writeCycle eraseCycle allCycle settingsCycle touched cut mapAt programmed named replaced erased cutPage cutWrite cutSector figuresOf
+worked = record { fresh = refl; enabled = refl; writing = refl; last-write-tick = refl; written = refl; powered = refl; lost-told = refl; lost-not = refl; programming = refl; last-tick = refl; programmed = refl; early = refl; done = refl; cut-program = refl; cut-sector = refl; cut-bulk = refl; page-write = refl; cut-write = refl; page-erase = refl; cut-subsector = refl; rested = refl; kept-settings = refl }

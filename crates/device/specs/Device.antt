@@ -1,5 +1,6 @@
--- The device record of document 01, with the cycle that document 02, Wish 9, has it remember: its changes, when it is sound, its status byte.
+-- The device record of document 01, with the cycle that document 02, Wish 9, has it remember and the lock registers of Wish 11: its changes, when it is sound, its status byte.
 use mathlib.Core.Bool.{Bool, true, false, cond, _&&_}
+use mathlib.Core.List.{List}
 use Prim.Native.Nat.{ℕ, _+_, _*_, _%_}
 use lib.Dec.{ltb, leb}
 pub use Rattle.slices.specs.Chosen.{onZero}
@@ -8,6 +9,7 @@ use Rattle.device.specs.declared.Mode.{Mode}
 use Rattle.device.specs.declared.Mode.the-variants.{Standby, Busy, Deep}
 use Rattle.device.specs.declared.Device.{Device}
 use Rattle.device.specs.declared.cycle.Cycle.{Cycle}
+use Rattle.device.specs.Locks.{noLocks, locksSound}
 use Rattle.device.specs.Cycles.{noCycle, bothSame, cycleSound}
 
 -- the latch of a cycle with t ticks left: set exactly if more than one tick is left
@@ -16,23 +18,27 @@ latchAt t = ltb 1 t
 
 -- another latch and mode
 unfoldable pub moded : Device → Bool → Mode → Device
-moded d l m = record { part = d .part; bp = d .bp; srwd = d .srwd; latch = l; mode = m; program = d .program; «sector_erase» = d .«sector_erase»; «bulk_erase» = d .«bulk_erase»; «write_status» = d .«write_status»; cycle = d .cycle }
+moded d l m = record { part = d .part; bp = d .bp; srwd = d .srwd; latch = l; mode = m; program = d .program; «sector_erase» = d .«sector_erase»; «bulk_erase» = d .«bulk_erase»; «write_status» = d .«write_status»; cycle = d .cycle; locks = d .locks }
 
 -- another latch
 unfoldable pub latched : Device → Bool → Device
-latched d on = record { part = d .part; bp = d .bp; srwd = d .srwd; latch = on; mode = d .mode; program = d .program; «sector_erase» = d .«sector_erase»; «bulk_erase» = d .«bulk_erase»; «write_status» = d .«write_status»; cycle = d .cycle }
+latched d on = record { part = d .part; bp = d .bp; srwd = d .srwd; latch = on; mode = d .mode; program = d .program; «sector_erase» = d .«sector_erase»; «bulk_erase» = d .«bulk_erase»; «write_status» = d .«write_status»; cycle = d .cycle; locks = d .locks }
 
 -- other settings
 unfoldable pub settled : Device → Bool → ℕ → Device
-settled d w b = record { part = d .part; bp = b; srwd = w; latch = d .latch; mode = d .mode; program = d .program; «sector_erase» = d .«sector_erase»; «bulk_erase» = d .«bulk_erase»; «write_status» = d .«write_status»; cycle = d .cycle }
+settled d w b = record { part = d .part; bp = b; srwd = w; latch = d .latch; mode = d .mode; program = d .program; «sector_erase» = d .«sector_erase»; «bulk_erase» = d .«bulk_erase»; «write_status» = d .«write_status»; cycle = d .cycle; locks = d .locks }
 
 -- another remembered cycle
 unfoldable pub remembering : Device → Cycle → Device
-remembering d c = record { part = d .part; bp = d .bp; srwd = d .srwd; latch = d .latch; mode = d .mode; program = d .program; «sector_erase» = d .«sector_erase»; «bulk_erase» = d .«bulk_erase»; «write_status» = d .«write_status»; cycle = c }
+remembering d c = record { part = d .part; bp = d .bp; srwd = d .srwd; latch = d .latch; mode = d .mode; program = d .program; «sector_erase» = d .«sector_erase»; «bulk_erase» = d .«bulk_erase»; «write_status» = d .«write_status»; cycle = c; locks = d .locks }
 
--- the record as delivered: BP 0, SRWD 0, latch reset, standby, the given durations, no cycle
+-- other lock registers
+unfoldable pub locked : Device → List ℕ → Device
+locked d ls = record { part = d .part; bp = d .bp; srwd = d .srwd; latch = d .latch; mode = d .mode; program = d .program; «sector_erase» = d .«sector_erase»; «bulk_erase» = d .«bulk_erase»; «write_status» = d .«write_status»; cycle = d .cycle; locks = ls }
+
+-- the record as delivered: BP 0, SRWD 0, latch reset, standby, the given durations, no cycle, all lock registers zero
 unfoldable pub delivered : ℕ → ℕ → ℕ → ℕ → ℕ → Device
-delivered p program sector bulk status = record { part = p; bp = 0; srwd = false; latch = false; mode = Standby; program = program; «sector_erase» = sector; «bulk_erase» = bulk; «write_status» = status; cycle = noCycle }
+delivered p program sector bulk status = record { part = p; bp = 0; srwd = false; latch = false; mode = Standby; program = program; «sector_erase» = sector; «bulk_erase» = bulk; «write_status» = status; cycle = noCycle; locks = noLocks }
 
 -- the all-zero record
 unfoldable pub zeroRecord : Device
@@ -83,6 +89,7 @@ sound d =
     && rangedOf (d .«write_status»)
     && modeSound (d .mode) (d .latch) (figuresOf (d .part) .sleeps)
     && cycleSound (d .cycle) (figuresOf (d .part)) (isBusy (d .mode))
+    && locksSound (figuresOf (d .part)) (d .locks)
 
 -- the status byte: bit 7 SRWD, bits 4 to 2 BP (its three lowest bits, if it had more), bit 1 the latch, bit 0 set while busy
 unfoldable pub statusByte : Device → ℕ

@@ -1,5 +1,6 @@
--- The device record, its cycles, time and power, and its packing; and the chip.
+-- The device record, its lock registers and cycles, time and power, and its packing; and the chip.
 pub mod Device
+pub mod Locks
 pub mod Cycles
 pub mod Chip
 pub mod Time

@@ -1,27 +1,35 @@
--- The packing of a record, and reading it back: 28 bytes of the record, then 8 and the 256 slots of its cycle.
+-- The packing of a record, and reading it back: 28 bytes of the record, then 8, the 256 slots and 4 of its cycle, then the lock registers.
 use mathlib.Core.Path.{_≡_}
 use mathlib.Core.Bool.{Bool, cond, _&&_}
 use mathlib.Core.List.{List, [], _∷_, _++_}
 use Prim.Native.Nat.{ℕ}
 use lib.Dec.{eqb}
-use lib.ListN.{length, getD, drop}
+use lib.ListN.{length, getD, take, drop}
 use Rattle.slices.specs.Bytes.{sameBytes, word, wordAt}
 use Rattle.device.specs.declared.Mode.{Mode}
 use Rattle.device.specs.declared.Mode.the-variants.{Standby, Busy, Deep}
 use Rattle.device.specs.declared.Device.{Device}
 use Rattle.device.specs.declared.Checked.{Checked}
 use Rattle.device.specs.declared.cycle.Kind.{Kind}
-use Rattle.device.specs.declared.cycle.Kind.the-variants.{Idle, Page, Sector, All, Settings}
+use Rattle.device.specs.declared.cycle.Kind.the-variants.{Idle, Page, Sector, All, Settings, PageWrite, PageErase, Subsector}
 use Rattle.device.specs.declared.cycle.Cycle.{Cycle}
 use Rattle.device.specs.Device.{sound, zeroRecord, onZero}
 
 -- how many bytes a packing has
 abbrev pub packedLength : ℕ
-packedLength = 292
+packedLength = 304
 
 -- how many of them come before the slots
 abbrev pub frontLength : ℕ
 frontLength = 36
+
+-- where the number of bytes named stands, behind the slots
+abbrev pub namedPlace : ℕ
+namedPlace = 292
+
+-- where the lock registers stand
+abbrev pub locksPlace : ℕ
+locksPlace = 296
 
 -- 1 for true, 0 for false
 abbrev pub bit : Bool → ℕ
@@ -50,10 +58,13 @@ kindNumber Page = 1
 kindNumber Sector = 2
 kindNumber All = 3
 kindNumber Settings = 4
+kindNumber PageWrite = 5
+kindNumber PageErase = 6
+kindNumber Subsector = 7
 
 -- the kind of a kind byte
 abbrev pub kindOf : ℕ → Kind
-kindOf number = cond (eqb number 1) Page (cond (eqb number 2) Sector (cond (eqb number 3) All (cond (eqb number 4) Settings Idle)))
+kindOf number = cond (eqb number 1) Page (cond (eqb number 2) Sector (cond (eqb number 3) All (cond (eqb number 4) Settings (cond (eqb number 5) PageWrite (cond (eqb number 6) PageErase (cond (eqb number 7) Subsector Idle))))))
 
 -- the first eight bytes: part, BP, SRWD, latch, mode, three zero bytes
 abbrev pub headOf : Device → List ℕ
@@ -75,17 +86,17 @@ frontOf d =
     ++ (cycleHead (d .cycle)
     ++ word (d .cycle .address)))))))
 
--- the packing: these, then the slots
+-- the packing: these, then the slots, how many bytes were named, the lock registers
 unfoldable pub packOf : Device → List ℕ
-packOf d = frontOf d ++ d .cycle .slots
+packOf d = frontOf d ++ (d .cycle .slots ++ (word (d .cycle .named) ++ d .locks))
 
 -- the cycle whose fields stand in the bytes, whether they are a packing or not
 abbrev pub cycleAt : List ℕ → Cycle
-cycleAt b = record { kind = kindOf (getD b 28 0); address = wordAt b 32; slots = drop frontLength b; bp = getD b 29 0; srwd = eqb (getD b 30 0) 1 }
+cycleAt b = record { kind = kindOf (getD b 28 0); address = wordAt b 32; slots = take 256 (drop frontLength b); bp = getD b 29 0; srwd = eqb (getD b 30 0) 1; named = wordAt b namedPlace }
 
 -- the record whose fields stand in the bytes, whether they are a packing or not
 unfoldable pub fieldsOf : List ℕ → Device
-fieldsOf b = record { part = getD b 0 0; bp = getD b 1 0; srwd = eqb (getD b 2 0) 1; latch = eqb (getD b 3 0) 1; mode = modeOf (getD b 4 0) (wordAt b 8); program = wordAt b 12; «sector_erase» = wordAt b 16; «bulk_erase» = wordAt b 20; «write_status» = wordAt b 24; cycle = cycleAt b }
+fieldsOf b = record { part = getD b 0 0; bp = getD b 1 0; srwd = eqb (getD b 2 0) 1; latch = eqb (getD b 3 0) 1; mode = modeOf (getD b 4 0) (wordAt b 8); program = wordAt b 12; «sector_erase» = wordAt b 16; «bulk_erase» = wordAt b 20; «write_status» = wordAt b 24; cycle = cycleAt b; locks = drop locksPlace b }
 
 -- whether bytes are the packing of the record whose fields stand in them
 unfoldable pub formed : List ℕ → Bool

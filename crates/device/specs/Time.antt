@@ -1,4 +1,4 @@
--- Document 02, Wish 9: how a cycle ends, on its last tick, at power-up, or cut by a power loss; and what the calls answer and leave.
+-- Document 02, Wishes 9 and 11: how a cycle ends, on its last tick, at power-up, or cut by a power loss; and what the calls answer and leave.
 use mathlib.Core.Path.{_≡_}
 use mathlib.Core.Bool.{Bool, true, cond, not, _&&_}
 use mathlib.Core.List.{List}
@@ -13,8 +13,9 @@ use Rattle.device.specs.declared.Mode.the-variants.{Standby, Busy, Deep}
 use Rattle.device.specs.declared.Device.{Device}
 use Rattle.device.specs.declared.Checked.{Checked}
 use Rattle.device.specs.Chip.{Chip, chip}
+use Rattle.device.specs.Locks.{noLocks}
 use Rattle.device.specs.Cycles.{usesOf, touched, cut}
-use Rattle.device.specs.Device.{settled, running, ended, sound}
+use Rattle.device.specs.Device.{settled, running, ended, locked, sound}
 
 -- ---- the end of a cycle: `told` is the yes, true, or no, false, of a power loss
 
@@ -22,13 +23,21 @@ use Rattle.device.specs.Device.{settled, running, ended, sound}
 unfoldable pub afterCycle : Device → Bool → Device
 afterCycle d told = ended (cond (usesOf (d .cycle .kind) .settings && told) (settled d (d .cycle .srwd) (d .cycle .bp)) d)
 
--- a cycle completed, on its last tick or at power-up; outside a cycle only standby, latch reset
+-- a cycle completed, on its last tick or at power-up; outside a cycle only standby, latch reset. The lock registers stay
 unfoldable pub finished : Chip → Chip
 finished c = chip (afterCycle (c .device) true) (mapAt (touched (figuresOf (c .device .part)) (c .device .cycle)) (c .array))
 
--- a power loss, with a mask and a yes or no; outside a cycle only standby, latch reset
+-- the record once power was off: all lock registers zero, in a cycle or not
+unfoldable pub unlocked : Device → Device
+unlocked d = locked d noLocks
+
+-- power-up: a cycle is completed, then the lock registers are zero
+unfoldable pub poweredUp : Chip → Chip
+poweredUp c = chip (unlocked (finished c .device)) (finished c .array)
+
+-- a power loss, with a mask and a yes or no; outside a cycle only standby, latch reset, all lock registers zero
 unfoldable pub lost : Chip → List ℕ → Bool → Chip
-lost c mask told = chip (afterCycle (c .device) told) (mapAt (cut (figuresOf (c .device .part)) (c .device .cycle) mask) (c .array))
+lost c mask told = chip (unlocked (afterCycle (c .device) told)) (mapAt (cut (figuresOf (c .device .part)) (c .device .cycle) mask) (c .array))
 
 -- waiting in a mode: fewer ticks than are left fall off, with the latch that belongs to the ticks left; else the cycle is completed; without a cycle nothing changes
 abbrev pub waitedIn : Mode → Chip → ℕ → Chip
@@ -68,7 +77,7 @@ waitCall c t = timed (timeNumber (c .device) (length (c .array)) 0) (waited c t)
 
 -- power-up
 unfoldable pub powerUpCall : Chip → Timed
-powerUpCall c = timed (timeNumber (c .device) (length (c .array)) 0) (finished c) c
+powerUpCall c = timed (timeNumber (c .device) (length (c .array)) 0) (poweredUp c) c
 
 -- a power loss
 unfoldable pub lossCall : Chip → List ℕ → Bool → Timed

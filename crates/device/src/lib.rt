@@ -1,9 +1,12 @@
 // The device record: its changes, when it is sound, and its status byte.
 ghost use mathlib.Core.Path.{_≡_};
-ghost use Rattle.device.specs.Device.{latchAt, moded, latched, settled, remembering, running, started, ended, zeroRecord, delivered, rangedOf, modeSound, sound, isBusy, isDeep, statusByte};
+ghost use Rattle.device.specs.Device.{latchAt, moded, latched, settled, remembering, locked, running, started, ended, zeroRecord, delivered, rangedOf, modeSound, sound, isBusy, isDeep, statusByte};
 
 // The cycle that is remembered, what it does, and how long it takes.
 pub mod cycle;
+
+// The lock registers.
+pub mod locks;
 
 // The bytes that a record is packed in.
 pub mod packing;
@@ -13,6 +16,8 @@ pub mod time;
 
 use cycle::Cycle;
 use cycle::same;
+use locks::REGISTERS;
+use locks::locks_sound;
 
 // What the chip is doing: nothing, a cycle with so many ticks left, or deep power-down.
 pub enum Mode {
@@ -21,7 +26,7 @@ pub enum Mode {
     Deep,
 }
 
-// A chip between two transactions. The four before the last are how many ticks each kind of cycle takes; the last is the cycle that runs.
+// A chip between two transactions. The four after the mode are how many ticks each kind of cycle takes; then the cycle that runs, and the lock register of each sector of an M25PE part, zero on the others.
 pub struct Device {
     pub part: u8,
     pub bp: u8,
@@ -33,6 +38,7 @@ pub struct Device {
     pub bulk_erase: u32,
     pub write_status: u32,
     pub cycle: Cycle,
+    pub locks: [u8; REGISTERS],
 }
 
 // The answer of a call that checks its record, and the record handed back.
@@ -94,6 +100,7 @@ impl Device {
         ensures { λ r. ⌜ r ≡ moded self latch mode ⌝ }
     {
         let cycle = self.cycle;
+        let locks = self.locks;
         Device {
             part: self.part,
             bp: self.bp,
@@ -105,6 +112,7 @@ impl Device {
             bulk_erase: self.bulk_erase,
             write_status: self.write_status,
             cycle,
+            locks,
         }
     }
 
@@ -130,6 +138,14 @@ impl Device {
         ensures { λ r. ⌜ r ≡ remembering self cycle ⌝ }
     {
         self.cycle = cycle;
+        self
+    }
+
+    // Other lock registers.
+    pub fn locked(mut self, locks: [u8; REGISTERS]) -> Self
+        ensures { λ r. ⌜ r ≡ locked self locks ⌝ }
+    {
+        self.locks = locks;
         self
     }
 
@@ -183,6 +199,7 @@ impl Device {
             bulk_erase,
             write_status,
             cycle,
+            locks: [0; REGISTERS],
         }
     }
 
@@ -200,6 +217,8 @@ impl Device {
         let cycle = self.cycle;
         let fits = mode_sound(mode, self.latch, figures.sleeps);
         let whole = cycle.sound(figures, is_busy(mode));
+        let locks = self.locks;
+        let closed = locks_sound(figures, locks);
         known
             & (self.bp <= figures.highest_bp)
             & program
@@ -208,6 +227,7 @@ impl Device {
             & write_status
             & fits
             & whole
+            & closed
     }
 
     // The status byte: bit 7 SRWD, bits 4 to 2 BP, bit 1 the latch, bit 0 set while busy.

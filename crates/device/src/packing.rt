@@ -1,20 +1,28 @@
 // The record packed in bytes, and read back.
 ghost use mathlib.Core.Path.{_≡_};
+ghost use mathlib.Core.List.{_++_};
 ghost use lib.ListN.{length, take, drop};
-ghost use Rattle.slices.specs.Bytes.{sameBytes};
+ghost use Rattle.slices.specs.Bytes.{sameBytes, word};
 ghost use Rattle.slices.specs.Changed.{mapAt, stored};
-ghost use Rattle.device.specs.Packing.{packedLength, frontLength, modeNumber, ticksOf, modeOf, kindNumber, kindOf, headOf, cycleHead, frontOf, packOf, cycleAt, fieldsOf, Packed, unpackOf};
+ghost use Rattle.device.specs.Packing.{packedLength, frontLength, namedPlace, locksPlace, modeNumber, ticksOf, modeOf, kindNumber, kindOf, headOf, cycleHead, frontOf, packOf, cycleAt, fieldsOf, Packed, unpackOf};
 use crate::Checked;
 use crate::Device;
 use crate::Mode;
 use crate::cycle::Cycle;
 use crate::cycle::Kind;
+use crate::locks::REGISTERS;
 
 // How many bytes a packing has.
-pub const LENGTH: usize = 292;
+pub const LENGTH: usize = 304;
 
 // How many of them come before the slots.
 const FRONT: usize = 36;
+
+// Where the number of bytes named stands, behind the slots.
+const NAMED: usize = 292;
+
+// Where the lock registers stand.
+const LOCKS: usize = 296;
 
 // The mode byte.
 fn mode_number(mode: Mode) -> u8
@@ -59,6 +67,9 @@ fn kind_number(kind: Kind) -> u8
         Kind::Sector => 2,
         Kind::All => 3,
         Kind::Settings => 4,
+        Kind::PageWrite => 5,
+        Kind::PageErase => 6,
+        Kind::Subsector => 7,
     }
 }
 
@@ -71,6 +82,9 @@ fn kind_of(number: u8) -> Kind
         2 => Kind::Sector,
         3 => Kind::All,
         4 => Kind::Settings,
+        5 => Kind::PageWrite,
+        6 => Kind::PageErase,
+        7 => Kind::Subsector,
         _ => Kind::Idle,
     }
 }
@@ -123,24 +137,44 @@ fn write_front(d: Device, out: &mut [u8])
     slices::store_word(out, 32, cycle.address);
 }
 
-// The packing written to the front of `out`, whatever the record: what comes before the slots, then the slots.
+// What comes from the slots on written to its place in `out`: the slots, the number of bytes named, the lock registers.
+fn write_rest(slots: [u8; 256], named: u32, locks: [u8; REGISTERS], out: &mut [u8])
+    ensures { λ _. ⌜ now (out .exit) ≡ mapAt (stored frontLength (slots ++ (word named ++ locks))) (now (out .entry)) ⌝ }
+{
+    slices::store(out, FRONT, &slots);
+    slices::store_word(out, NAMED, named);
+    slices::store(out, LOCKS, &locks);
+}
+
+// The packing written to the front of `out`, whatever the record: what comes before the slots, then the rest.
 pub fn write(d: Device, out: &mut [u8])
     ensures { λ _. ⌜ now (out .exit) ≡ mapAt (stored 0 (packOf d)) (now (out .entry)) ⌝ }
 {
     let cycle = d.cycle;
     let slots = cycle.slots;
+    let locks = d.locks;
     write_front(d, out);
-    slices::store(out, FRONT, &slots);
+    write_rest(slots, cycle.named, locks, out);
 }
 
 // The slots of a packing.
 fn slots_in(b: &[u8]) -> [u8; 256]
     requires { ⌜ length (now b) ≡ packedLength ⌝ }
-    ensures { λ r. ⌜ r ≡ drop frontLength (now (b .entry)) ⌝ }
+    ensures { λ r. ⌜ r ≡ take 256 (drop frontLength (now (b .entry))) ⌝ }
 {
     let mut slots = [0; 256];
-    slices::store(&mut slots, 0, &b[FRONT..]);
+    slices::store(&mut slots, 0, &b[FRONT..NAMED]);
     slots
+}
+
+// The lock registers of a packing.
+fn locks_in(b: &[u8]) -> [u8; REGISTERS]
+    requires { ⌜ length (now b) ≡ packedLength ⌝ }
+    ensures { λ r. ⌜ r ≡ drop locksPlace (now (b .entry)) ⌝ }
+{
+    let mut locks = [0; REGISTERS];
+    slices::store(&mut locks, 0, &b[LOCKS..]);
+    locks
 }
 
 // The cycle whose fields stand in the bytes, whether they are a packing or not.
@@ -157,6 +191,7 @@ fn cycle_in(b: &[u8]) -> Cycle
         slots,
         bp: slices::byte_at(b, 29),
         srwd: slices::byte_at(b, 30) == 1,
+        named: slices::word_at(b, NAMED),
     }
 }
 
@@ -171,6 +206,7 @@ fn fields(b: &[u8]) -> Device
     let bulk_erase = slices::word_at(b, 20);
     let write_status = slices::word_at(b, 24);
     let cycle = cycle_in(b);
+    let locks = locks_in(b);
     Device {
         part: slices::byte_at(b, 0),
         bp: slices::byte_at(b, 1),
@@ -182,6 +218,7 @@ fn fields(b: &[u8]) -> Device
         bulk_erase,
         write_status,
         cycle,
+        locks,
     }
 }
 
@@ -192,6 +229,17 @@ fn begins_as(d: Device, b: &[u8]) -> bool
     let mut again = [0; FRONT];
     write_front(d, &mut again);
     slices::same(slices::front(b, FRONT), &again)
+}
+
+// Whether a number's four bytes stand where the number of bytes named does.
+fn named_as(named: u32, b: &[u8]) -> bool
+    requires { ⌜ length (now b) ≡ packedLength ⌝ }
+    ensures { λ r. ⌜ r ≡ sameBytes (take 4 (drop namedPlace (now (b .entry)))) (word named) ⌝ }
+{
+    let mut again = [0; 4];
+    let start = 0;
+    slices::store_word(&mut again, start, named);
+    slices::same(&b[NAMED..LOCKS], &again)
 }
 
 // Packs a record: 8 where `out` is not of `LENGTH` bytes, 6 where the record is not sound, with nothing written; else 0.
@@ -219,7 +267,8 @@ pub fn unpack(packed: &[u8]) -> Checked
         };
     }
     let d = fields(packed);
-    let formed = begins_as(d, packed);
+    let cycle = d.cycle;
+    let formed = begins_as(d, packed) & named_as(cycle.named, packed);
     let sound = d.sound();
     if formed & sound {
         Checked {

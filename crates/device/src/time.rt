@@ -1,11 +1,12 @@
 // Time and power: waiting, power-up and power loss. Each is lent the array, and checks record and array itself.
 ghost use mathlib.Core.Path.{_≡_};
 ghost use Rattle.device.specs.Chip.{chip};
-ghost use Rattle.device.specs.Time.{afterCycle, finished, waited, timeNumber, Handed, waitCall, powerUpCall, lossCall};
+ghost use Rattle.device.specs.Time.{afterCycle, finished, unlocked, waited, timeNumber, Handed, waitCall, powerUpCall, lossCall};
 use crate::Checked;
 use crate::Device;
 use crate::Mode;
 use crate::cycle::Uses;
+use crate::locks::REGISTERS;
 use parts::Figures;
 
 impl Device {
@@ -29,6 +30,13 @@ impl Device {
         let cycle = self.cycle;
         cycle.complete(Figures::of(self.part), array);
         self.after_cycle(true)
+    }
+
+    // Power was off: all lock registers zero.
+    fn unlocked(self) -> Self
+        ensures { λ r. ⌜ r ≡ unlocked self ⌝ }
+    {
+        self.locked([0; REGISTERS])
     }
 
     // `t` ticks later: within a cycle with the latch that belongs to the ticks left, on its last tick with its effect.
@@ -74,7 +82,7 @@ impl Device {
         Checked { answer, device }
     }
 
-    // Powers up: a cycle is completed. 6 and 2 change nothing.
+    // Powers up: a cycle is completed, then the lock registers are zero. 6 and 2 change nothing.
     pub fn power_up(self, array: &mut [u8]) -> Checked
         ensures { λ r. ⌜ Handed (powerUpCall (chip self (now (array .entry)))) r (now (array .exit)) ⌝ }
     {
@@ -85,11 +93,11 @@ impl Device {
                 device: self,
             };
         }
-        let device = self.finish(array);
+        let device = self.finish(array).unlocked();
         Checked { answer, device }
     }
 
-    // Power is lost and comes back: a cycle is cut as the mask says, a settings write is complete on `yes`. 6, 2 and 41 change nothing.
+    // Power is lost and comes back: a cycle is cut as the mask says, a settings write is complete on `yes`, and the lock registers are zero. 6, 2 and 41 change nothing.
     pub fn loss(self, array: &mut [u8], mask: &[u8], yes: bool) -> Checked
         ensures { λ r. ⌜ Handed (lossCall (chip self (now (array .entry))) (now (mask .entry)) yes) r (now (array .exit)) ⌝ }
     {
@@ -103,7 +111,7 @@ impl Device {
         }
         let cycle = self.cycle;
         cycle.cut_short(Figures::of(self.part), array, mask);
-        let device = self.after_cycle(yes);
+        let device = self.after_cycle(yes).unlocked();
         Checked { answer, device }
     }
 }

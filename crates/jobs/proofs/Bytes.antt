@@ -16,10 +16,11 @@ use Rattle.parts.specs.declared.Figures.{Figures}
 use Rattle.parts.specs.Parts.{figuresOf}
 use Rattle.parts.proofs.Laws.{Sane, sane, in-sector}
 use Rattle.device.specs.declared.Device.{Device}
-use Rattle.device.specs.Cycles.{pageCycle, sectorCycle, allCycle, touched}
+use Rattle.device.specs.Cycles.{pageCycle, eraseCycle, allCycle, touched}
 use Rattle.chip.specs.Table.{rowOf, addressOf}
 use Rattle.chip.specs.Change.{cycleOf, changed, asItWas}
-use Rattle.chip.proofs.Rules.{changed-byte}
+use Rattle.device.proofs.Registers.{neither}
+use Rattle.chip.proofs.Rules.{namesBytes, changed-byte}
 use Rattle.jobs.specs.Jobs.{Job, Entry, isProgram, isErase, code, WellFormed, AllFormed}
 use Rattle.jobs.specs.Formula.{over, erasedBy, reaches, byteFor, programmedBy, everErased, afterLastErase, programmedBytes, ands, endsAs}
 use Rattle.jobs.specs.Swap.{names, MaySwap, bothPrograms, bothErases, differentSectors}
@@ -35,7 +36,7 @@ pub data Acts (f : Figures) (c : ℕ) (sent : List ℕ) (i : ℕ) : Type 0 where
       → ((x : ℕ) → changed (rowOf f c .turn) f (addressOf f sent) sent i x ≡ cond q 255 x) → Acts f c sent i
 
 acts : (f : Figures) → Sane f → (sent : List ℕ) (i c : ℕ) → eqb c 0x02 || (eqb c 0xD8 || eqb c 0xC7) ≡ true → Acts f c sent i
-unfolding rowOf changed cycleOf pageCycle sectorCycle allCycle touched programmed erased
+unfolding rowOf changed cycleOf pageCycle eraseCycle allCycle touched programmed erased
 acts f s sent i =
     codes-ind (λ (c : ℕ). Acts f c sent i)
     (andsIn refl (eqb (i / 256) (addressOf f sent / 256)) (getD (filled blank (addressOf f sent) (drop 4 sent)) (i % 256) 0)
@@ -133,7 +134,7 @@ touched-own : (f : Figures) (sent : List ℕ) (i x : ℕ) → x < 256 → (c : �
     ≡ cond (eqb c 0xC7 || (eqb c 0xD8 && eqb (i / f .«sector_bytes») (addressOf f sent / f .«sector_bytes»))) 0xFF
     (ands x
     (cond (eqb c 0x02 && (eqb (i / 256) (addressOf f sent / 256) && reached (addressOf f sent) (drop 4 sent) (i % 256))) (landed (addressOf f sent) (drop 4 sent) (i % 256) 255 ∷ []) []))
-unfolding rowOf changed cycleOf pageCycle sectorCycle allCycle touched erased
+unfolding rowOf changed cycleOf pageCycle eraseCycle allCycle touched erased
 touched-own f sent i x lt =
     codes-ind
     (λ (c : ℕ).
@@ -150,18 +151,19 @@ touched-if : (f : Figures) (t : Bool) (j : Job) → WellFormed j → (i x : ℕ)
 touched-if f true j w i x lt = touched-own f (j .sent) i x lt (code j) (w .kind)
 touched-if f false j w i x lt = refl
 
+-- no job names bytes
+names-none : (f : Figures) (c : ℕ) → eqb c 0x02 || (eqb c 0xD8 || eqb c 0xC7) ≡ true → namesBytes (rowOf f c .turn) ≡ false
+unfolding rowOf
+names-none f = codes-ind (λ (c : ℕ). namesBytes (rowOf f c .turn) ≡ false) refl refl refl
+
 -- bytes stay bytes
-pub effect-byte : (d : Device) (j : Job) (i x : ℕ) → x < 256 → effect d j i x < 256
-effect-byte d j i x lt =
-    cond-ind (λ (g : ℕ → ℕ → ℕ). g i x < 256) (eqb (number d j) 0) (changed-byte (rowOf (figuresOf (d .part)) (code j) .turn) (figuresOf (d .part)) (addressOf (figuresOf (d .part)) (j .sent)) (j .sent) i x lt) lt
+pub effect-byte : (d : Device) (j : Job) → WellFormed j → (i x : ℕ) → x < 256 → effect d j i x < 256
+effect-byte d j w i x lt =
+    cond-ind (λ (g : ℕ → ℕ → ℕ). g i x < 256) (eqb (number d j) 0) (changed-byte (rowOf (figuresOf (d .part)) (code j) .turn) (figuresOf (d .part)) (addressOf (figuresOf (d .part)) (j .sent)) (j .sent) i x (names-none (figuresOf (d .part)) (code j) (w .kind)) lt) lt
 
 ands-append : (x : ℕ) (bs cs : List ℕ) → ands x (bs ++ cs) ≡ ands (ands x bs) cs
 ands-append x [] cs = refl
 ands-append x (b ∷ bs) cs = ands-append (bitAnd x b) bs cs
-
-neither : (a b : Bool) → a || b ≡ false → (a ≡ false) × (b ≡ false)
-neither true b h = absurd (true≢false h)
-neither false b h = (refl, h)
 
 -- without an erase every job comes after the last one
 all-after : (f : Figures) (i : ℕ) (rs : List Entry) → everErased f i rs ≡ false → afterLastErase f i rs ≡ rs
@@ -186,7 +188,7 @@ one-more f i r rs x false false s =
 pub ends : (d : Device) (i : ℕ) (js : List Job) → AllFormed js → (x : ℕ) → x < 256 → through d js i x ≡ endsAs (figuresOf (d .part)) i (rans d js) x
 ends d i [] w x lt = refl
 ends d i (j ∷ js) w x lt =
-    ends d i js (w .1) (effect d j i x) (effect-byte d j i x lt)
+    ends d i js (w .1) (effect d j i x) (effect-byte d j (w .0) i x lt)
     ∙ ap (endsAs (figuresOf (d .part)) i (rans d js)) (touched-if (figuresOf (d .part)) (eqb (number d j) 0) j (w .0) i x lt)
     ∙ one-more (figuresOf (d .part)) i (record { job = j; number = number d j }) (rans d js) x (everErased (figuresOf (d .part)) i (rans d js))
     (erasedBy (figuresOf (d .part)) i (record { job = j; number = number d j })) (all-after (figuresOf (d .part)) i (rans d js))

@@ -18,14 +18,14 @@ use Rattle.device.specs.declared.Device.{Device}
 use Rattle.device.specs.declared.cycle.Kind.the-variants.{Page, Sector, All}
 use Rattle.device.specs.declared.cycle.Cycle.{Cycle}
 pub use Rattle.device.specs.Chip.{chip}
-use Rattle.device.specs.Cycles.{usesOf, noCycle, pageCycle, sectorCycle, allCycle, touched}
+use Rattle.device.specs.Cycles.{usesOf, noCycle, pageCycle, eraseCycle, allCycle, touched}
 use Rattle.device.specs.Device.{sound, moded, latched, remembering, running, started, ended}
 use Rattle.device.specs.Time.{afterCycle, finished, waited, waitCall}
 use Rattle.device.proofs.Sound.{standby-sound}
 use Rattle.device.proofs.Timed.{time-next}
 use Rattle.device.proofs.Waiting.{cycle-ends}
 use Rattle.chip.specs.Table.{rowOf, addressOf, rowIn}
-use Rattle.chip.specs.Answers.{hostNumber, chipNumber, asNeeded, inProtected, decided, verdictOf}
+use Rattle.chip.specs.Answers.{hostNumber, chipNumber, asNeeded, protectedAt, protectedAny, decided, verdictOf}
 use Rattle.chip.specs.Change.{cycleOf, changed, asItWas, turned}
 use Rattle.chip.specs.Outcome.{Outcome, outcomeOf, transacted}
 use Rattle.chip.specs.Events.{Chip, sends, sent, after, reply, run}
@@ -145,7 +145,7 @@ module _ (d : Device) (xs : List ℕ) (z : length xs ≡ figuresOf (d .part) .by
   -- an executed program or erase
   turned-waits : (sent : List ℕ) (c : ℕ) → eqb c 0x02 || (eqb c 0xD8 || eqb c 0xC7) ≡ true → let f = figuresOf (d .part) in let at = addressOf f sent in
       sound (turned (rowOf f c .turn) f (resting d true) at sent) ≡ true → Waits d (turned (rowOf f c .turn) f (resting d true) at sent) xs (changed (rowOf f c .turn) f at sent)
-  unfolding rowOf turned changed cycleOf pageCycle sectorCycle allCycle moded remembering
+  unfolding rowOf turned changed cycleOf pageCycle eraseCycle allCycle moded remembering
   turned-waits sent =
       let f = figuresOf (d .part) in
       let at = addressOf f sent in
@@ -250,9 +250,9 @@ allowed : (d : Device) (n p : ℕ) (w : Bool) (at c : ℕ) → eqb n 0 ≡ false
 unfolding chipNumber rowOf moded remembering
 allowed d n p w at c e =
     codes-ind (λ (c : ℕ). ExecutedOr15Or17 (chipNumber (resting d true) (rowOf (figuresOf (d .part)) c) n p w at))
-    (rw e (one-of-three (asNeeded (rowOf (figuresOf (d .part)) 0x02) n p) (inProtected (figuresOf (d .part)) (d .bp) at)))
-    (rw e (one-of-three (asNeeded (rowOf (figuresOf (d .part)) 0xD8) n p) (inProtected (figuresOf (d .part)) (d .bp) at)))
-    (rw e (one-of-three (asNeeded (rowOf (figuresOf (d .part)) 0xC7) n p) (ltb 0 (d .bp))))
+    (rw e (one-of-three (asNeeded (rowOf (figuresOf (d .part)) 0x02) n p) (protectedAt (figuresOf (d .part)) (resting d true) at)))
+    (rw e (one-of-three (asNeeded (rowOf (figuresOf (d .part)) 0xD8) n p) (protectedAt (figuresOf (d .part)) (resting d true) at)))
+    (rw e (one-of-three (asNeeded (rowOf (figuresOf (d .part)) 0xC7) n p) (protectedAny (resting d true))))
     c
 
 pub number-allowed : (d : Device) (j : Job) → WellFormed j → ExecutedOr15Or17 (number d j)

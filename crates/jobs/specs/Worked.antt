@@ -13,15 +13,17 @@ use Rattle.memory.specs.Memory as memory
 use Rattle.memory.specs.Missing.{missingAt, missing, pageOf}
 use Rattle.parts.specs.Parts.{figuresOf}
 use Rattle.parts.specs.Protected.{protectedOf}
+use Rattle.device.specs.Locks.{lockOf, locksSound, noLocks}
 use Rattle.device.specs.declared.Mode.the-variants.{Standby, Busy}
 use Rattle.device.specs.declared.Device.{Device}
 use Rattle.device.specs.declared.Checked.{Checked}
+use Rattle.device.specs.declared.cycle.Kind.the-variants.{Sector}
 use Rattle.device.specs.declared.cycle.Cycle.{Cycle}
 use Rattle.device.specs.Device.{sound, statusByte, latchAt, moded, latched, settled, remembering, running, started, ended}
 use Rattle.device.specs.Time.{afterCycle, finished, waited, timeNumber, waitCall}
 use Rattle.chip.specs.Table.{rowOf, addressOf}
-use Rattle.chip.specs.Answers.{hostNumber, chipNumber, asNeeded, inProtected, decided, verdictOf}
-use Rattle.device.specs.Cycles.{noSlots, noCycle, pageCycle, sectorCycle, allCycle, settingsCycle, slotsSound, cycleSound, touched}
+use Rattle.chip.specs.Answers.{hostNumber, chipNumber, asNeeded, inProtected, decided, verdictOf, protectedAny, protectedAt}
+use Rattle.device.specs.Cycles.{noSlots, noCycle, pageCycle, eraseCycle, allCycle, settingsCycle, slotsSound, cycleSound, touched, namedSound}
 use Rattle.chip.specs.Line.{byRow, heard, heardRow, driven, lined, drivingAt, firstOf, countOf}
 use Rattle.chip.specs.Change.{bpIn, cycleOf, missingOf, turned}
 use Rattle.chip.specs.Outcome.{Outcome, bare, outcomeOf, transacted}
@@ -34,7 +36,7 @@ use Rattle.jobs.specs.Call.{jobbed}
 abbrev pub start : Chip
 start =
     record {
-      device = record { part = 0; bp = 1; srwd = false; latch = false; mode = Standby; program = 3; «sector_erase» = 5; «bulk_erase» = 9; «write_status» = 2; cycle = noCycle };
+      device = record { part = 0; bp = 1; srwd = false; latch = false; mode = Standby; program = 3; «sector_erase» = 5; «bulk_erase» = 9; «write_status» = 2; cycle = noCycle; locks = noLocks };
       array = replicate 4096 0x7F;
     }
 
@@ -61,7 +63,7 @@ numbers (r ∷ rs) = r .number ∷ numbers rs
 
 -- the start and the lists are as the theorems ask
 pub ready : AtRest start
-unfolding sound figuresOf noSlots noCycle slotsSound cycleSound
+unfolding sound figuresOf noSlots noCycle slotsSound cycleSound namedSound locksSound noLocks
 ready = record { good = record { sound = refl; whole = length-replicate {A = ℕ} 4096 0x7F }; standby = refl }
 
 -- a job of at most five bytes is well formed
@@ -113,7 +115,7 @@ pub record Shown : Type 0 where
 
 -- computed by the checker
 pub shown : Shown
-unfolding sent transacted outcomeOf verdictOf decided hostNumber chipNumber rowOf addressOf asNeeded inProtected protectedOf cycleOf noSlots noCycle pageCycle sectorCycle allCycle settingsCycle slotsSound cycleSound touched turned running started ended remembering moded latched waited finished afterCycle waitCall timeNumber sound latchAt figuresOf mapAt programmed erased blank memory.filled reached landed
+unfolding sent transacted outcomeOf verdictOf decided hostNumber chipNumber rowOf addressOf asNeeded inProtected protectedOf cycleOf noSlots noCycle pageCycle eraseCycle allCycle settingsCycle slotsSound cycleSound touched turned running started ended remembering moded latched waited finished afterCycle waitCall timeNumber sound latchAt figuresOf mapAt programmed erased blank memory.filled reached landed namedSound locksSound noLocks protectedAt protectedAny lockOf
 shown =
     record { erase-last = refl; erase-first = refl; answers = refl; anded = refl; protects = refl; erases = refl; keeps = refl; anew = refl; later = refl; formula = refl; formula-first = refl }
 
@@ -140,18 +142,18 @@ pub record Called : Type 0 where
 
 -- computed by the checker
 pub is-called : Called
-unfolding jobbed sent transacted outcomeOf verdictOf decided hostNumber chipNumber rowOf addressOf asNeeded inProtected protectedOf cycleOf noSlots noCycle pageCycle sectorCycle allCycle settingsCycle slotsSound cycleSound touched missingOf missing missingAt pageOf ones onesIn turned running started ended remembering moded latched waited finished afterCycle waitCall timeNumber sound statusByte latchAt figuresOf mapAt window sumAt programmed erased blank memory.filled reached landed byRow heard heardRow driven lined drivingAt firstOf countOf
+unfolding jobbed sent transacted outcomeOf verdictOf decided hostNumber chipNumber rowOf addressOf asNeeded inProtected protectedOf cycleOf noSlots noCycle pageCycle eraseCycle allCycle settingsCycle slotsSound cycleSound touched missingOf missing missingAt pageOf ones onesIn turned running started ended remembering moded latched waited finished afterCycle waitCall timeNumber sound statusByte latchAt figuresOf mapAt window sumAt programmed erased blank memory.filled reached landed byRow heard heardRow driven lined drivingAt firstOf countOf namedSound locksSound noLocks protectedAt protectedAny lockOf
 is-called = record { executed = refl; byte = refl; rests = refl; line = refl; ignored = refl; kept = refl; still = refl; silent = refl; refused = refl }
 
 -- ---- the wait
 
 -- the bench part with BP 0 and these four durations: program, sector erase, bulk erase, write status
 abbrev pub lasting : ℕ → ℕ → ℕ → ℕ → Device
-lasting p s b w = record { part = 0; bp = 0; srwd = false; latch = false; mode = Standby; program = p; «sector_erase» = s; «bulk_erase» = b; «write_status» = w; cycle = noCycle }
+lasting p s b w = record { part = 0; bp = 0; srwd = false; latch = false; mode = Standby; program = p; «sector_erase» = s; «bulk_erase» = b; «write_status» = w; cycle = noCycle; locks = noLocks }
 
 -- the same in a cycle of two ticks or more, latch set, which it remembers
 abbrev pub going : ℕ → Cycle → Device → Device
-going t c d = record { part = 0; bp = 0; srwd = false; latch = true; mode = Busy t; program = d .program; «sector_erase» = d .«sector_erase»; «bulk_erase» = d .«bulk_erase»; «write_status» = d .«write_status»; cycle = c }
+going t c d = record { part = 0; bp = 0; srwd = false; latch = true; mode = Busy t; program = d .program; «sector_erase» = d .«sector_erase»; «bulk_erase» = d .«bulk_erase»; «write_status» = d .«write_status»; cycle = c; locks = noLocks }
 
 -- a program of F0 at 000010: the other slots are FF
 abbrev pub slots : List ℕ
@@ -185,7 +187,7 @@ pub record Waits : Type 0 where
   -- the cycle has that many ticks left before it, and is over after it: standby, latch reset
   pub programs-going : carried (programs 0x00 0x10 0xF0) (chip (lasting 1000000 5 9 2)) ≡ going 1000000 (pageCycle 16 slots) (lasting 1000000 5 9 2)
   pub programs-over : rested (programs 0x00 0x10 0xF0) (chip (lasting 1000000 5 9 2)) ≡ done (lasting 1000000 5 9 2)
-  pub sector-going : carried (job (0xD8 ∷ 0x00 ∷ 0x00 ∷ 0x00 ∷ [])) (chip (lasting 3 1000000 9 2)) ≡ going 1000000 (sectorCycle 0) (lasting 3 1000000 9 2)
+  pub sector-going : carried (job (0xD8 ∷ 0x00 ∷ 0x00 ∷ 0x00 ∷ [])) (chip (lasting 3 1000000 9 2)) ≡ going 1000000 (eraseCycle Sector 0) (lasting 3 1000000 9 2)
   pub sector-over : rested (job (0xD8 ∷ 0x00 ∷ 0x00 ∷ 0x00 ∷ [])) (chip (lasting 3 1000000 9 2)) ≡ done (lasting 3 1000000 9 2)
   pub bulk-going : carried (job (0xC7 ∷ [])) (chip (lasting 3 5 1000000 2)) ≡ going 1000000 allCycle (lasting 3 5 1000000 2)
   pub bulk-over : rested (job (0xC7 ∷ [])) (chip (lasting 3 5 1000000 2)) ≡ done (lasting 3 5 1000000 2)
@@ -193,14 +195,14 @@ pub record Waits : Type 0 where
   pub status-going : carried (job (0x01 ∷ 0x00 ∷ [])) (chip (lasting 3 5 9 1000000)) ≡ going 1000000 (settingsCycle false 0) (lasting 3 5 9 1000000)
   pub status-over : rested (job (0x01 ∷ 0x00 ∷ [])) (chip (lasting 3 5 9 1000000)) ≡ done (lasting 3 5 9 1000000)
   -- a cycle of one tick: the latch is reset before the wait, which ends the cycle as any other
-  pub one-going : carried (programs 0x00 0x10 0xF0) (chip (lasting 1 1 1 1)) ≡ record { part = 0; bp = 0; srwd = false; latch = false; mode = Busy 1; program = 1; «sector_erase» = 1; «bulk_erase» = 1; «write_status» = 1; cycle = pageCycle 16 slots }
+  pub one-going : carried (programs 0x00 0x10 0xF0) (chip (lasting 1 1 1 1)) ≡ record { part = 0; bp = 0; srwd = false; latch = false; mode = Busy 1; program = 1; «sector_erase» = 1; «bulk_erase» = 1; «write_status» = 1; cycle = pageCycle 16 slots; locks = noLocks }
   pub one-over : rested (programs 0x00 0x10 0xF0) (chip (lasting 1 1 1 1)) ≡ done (lasting 1 1 1 1)
   -- after a job that was ignored, 06 is undone by 04
   pub ignored : afterJob (job (0xC7 ∷ 0x00 ∷ [])) (chip (lasting 3 5 9 2)) .device ≡ lasting 3 5 9 2
 
 -- computed by the checker
 pub waits : Waits
-unfolding sent transacted outcomeOf verdictOf decided hostNumber chipNumber rowOf addressOf asNeeded inProtected protectedOf cycleOf noSlots noCycle pageCycle sectorCycle allCycle settingsCycle slotsSound cycleSound touched turned running started ended remembering moded latched waited finished afterCycle waitCall timeNumber sound latchAt figuresOf mapAt programmed erased blank memory.filled reached landed settled bpIn
+unfolding sent transacted outcomeOf verdictOf decided hostNumber chipNumber rowOf addressOf asNeeded inProtected protectedOf cycleOf noSlots noCycle pageCycle eraseCycle allCycle settingsCycle slotsSound cycleSound touched turned running started ended remembering moded latched waited finished afterCycle waitCall timeNumber sound latchAt figuresOf mapAt programmed erased blank memory.filled reached landed settled bpIn namedSound locksSound noLocks protectedAt protectedAny lockOf
 waits = record {
   program = refl;
   sector = refl;

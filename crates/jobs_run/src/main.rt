@@ -1,4 +1,4 @@
-// Runs lists of jobs on the bench part, neighbours swapped and not, and writes the answers with the bits missing, whether the arrays end the same, and byte 16 of each.
+// Runs lists of jobs on the bench part, neighbours swapped and not, and writes the answers with the bits missing, whether the arrays end the same, and byte 16 of each; then a list on an M25PE40 with a locked sector.
 use device::Device;
 
 // One transaction.
@@ -65,6 +65,40 @@ fn both_ways(settings: &[u8], first: &[u8], second: &[u8]) {
     compare(&a, &b);
 }
 
+// An M25PE40 with the lock register of sector 3 written.
+fn locked(array: &mut [u8], register: &[u8]) -> Device {
+    let delivered = chip::deliver(6, array, 3, 5, 9, 2);
+    let on = send(delivered.device, array, b"\x06");
+    send(on, array, register)
+}
+
+// Prints the last byte of sector 2 and the first of sector 3.
+fn print_edge(array: &[u8]) {
+    io::write_all(1, b" ");
+    io::print_hex(1, show::wide(slices::byte_at(array, 0x02_FFFF)), 2);
+    io::print_hex(1, show::wide(slices::byte_at(array, 0x03_0000)), 2);
+    io::write_all(1, b"\n");
+}
+
+// Two programs in sector 2, one in sector 3, a bulk erase.
+fn beside(start: Device, array: &mut [u8]) {
+    let next = pair(
+        start,
+        array,
+        b"\x02\x02\xFF\xFF\x55",
+        b"\x02\x02\xFF\xFF\xF0",
+    );
+    pair(next, array, b"\x02\x03\x00\x00\x3C", b"\xC7");
+    print_edge(array);
+}
+
+// These jobs on an M25PE40 with that register.
+fn on_m25pe40(register: &[u8]) {
+    let mut array = [0; 524_288];
+    let start = locked(&mut array, register);
+    beside(start, &mut array);
+}
+
 fn main() {
     // two programs on one byte
     both_ways(
@@ -84,4 +118,8 @@ fn main() {
     both_ways(b"\x01\x04", b"\x02\x00\x0C\x00\x00", b"\x02\x00\x00\x10");
     // BP 1: a bulk erase and a sector erase
     both_ways(b"\x01\x04", b"\xC7", b"\xD8\x00\x00\x00");
+    // a write lock stops the program in its sector and the bulk erase
+    on_m25pe40(b"\xE5\x03\x00\x00\x01");
+    // lock-down alone stops nothing
+    on_m25pe40(b"\xE5\x03\x00\x00\x02");
 }

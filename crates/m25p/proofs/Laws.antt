@@ -19,7 +19,7 @@ use Rattle.device.specs.Device.{onZero, sound, rangedOf, zeroRecord, delivered}
 use Rattle.device.specs.Time.{Timed, Handed}
 use Rattle.device.specs.Packing.{packedLength, packOf, unpackAnswer, unpackOf}
 use Rattle.device.proofs.Calls.{length-pack}
-use Rattle.device.proofs.Sound.{delivered-sound, slots-long}
+use Rattle.device.proofs.Sound.{delivered-sound, slots-long, locks-long}
 use Rattle.device.proofs.Inverse.{opened}
 use Rattle.chip.specs.declared.Answer.{Answer}
 use Rattle.chip.specs.declared.answers.Verdict.the-variants.{Refused}
@@ -45,7 +45,7 @@ kept k d b n = other k (packOf d) b n
 
 -- what is stored over bytes of a packing's length, of a record that is sound where the answer is 0
 pub stores : (k : ℕ) (d : Device) (b : List ℕ) {b′ : List ℕ} → b′ ≡ onZero k (mapAt (stored 0 (packOf d)) b) b → length b ≡ packedLength → (k ≡ 0 → sound d ≡ true) → b′ ≡ packedBy k d b
-stores zero d b e l s = e ∙ stored-whole (packOf d) b (length-pack d (slots-long d (s refl)) ∙ sym l)
+stores zero d b e l s = e ∙ stored-whole (packOf d) b (length-pack d (slots-long d (s refl)) (locks-long d (s refl)) ∙ sym l)
 stores (suc k) d b e l s = e
 
 -- only the record of an answer of 0 is looked at

@@ -72,7 +72,7 @@ suc-both a b = go (ltb a b) refl
 -- the places that the data reaches: with 256 bytes or more all of the page
 pub named-reached : (at : ℕ) (s : List ℕ) (i : ℕ) → named at (min 256 (length s)) i ≡ reached at s (i % 256)
 unfolding named reached
-named-reached at s i = capped (ltb off (length s)) refl ∙ sym (go at s (i % 256) (omega arith)) 
+named-reached at s i = capped (ltb off (length s)) refl ∙ sym (go at s (i % 256) (omega arith))
   where
     off : ℕ
     off = (i % 256 + (256 - at % 256)) % 256

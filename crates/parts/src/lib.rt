@@ -1,6 +1,6 @@
-// The six parts, each a type whose constants are its figures, and how many sectors BP protects.
+// The seven parts, each a type whose constants are its figures, and how many sectors BP protects.
 ghost use mathlib.Core.Path.{_≡_};
-ghost use Rattle.parts.specs.Parts.{bench, m25p10a, m25p40, m25p32, m25p128, m25p10aOlder, figuresOf, knownPart};
+ghost use Rattle.parts.specs.Parts.{bench, m25p10a, m25p40, m25p32, m25p128, m25p10aOlder, m25pe40, figuresOf, knownPart};
 ghost use Rattle.parts.specs.Protected.{protectedOf};
 
 // Part 0, for programs that run in small buffers.
@@ -22,12 +22,17 @@ pub struct M25p128;
 // and never driven.
 pub struct M25p10aOlder;
 
+// Part 6. It has no signature: SIGNATURE is 0 and never driven.
+pub struct M25pe40;
+
 // A part's figures as one value. `identifies` says whether Read Identification, 9F, exists; `sleeps` whether deep
-// power-down and its release, B9 and AB, do.
+// power-down and its release, B9 and AB, do; `pe` whether it is an M25PE part, with 0A, DB, 20, E5, E8 and a lock
+// register for each sector, on which AB only releases. A part without subsectors has its sector's bytes there.
 pub struct Figures {
     pub bytes: usize,
     pub sectors: usize,
     pub sector_bytes: usize,
+    pub subsector_bytes: usize,
     pub maker: u8,
     pub memory_type: u8,
     pub capacity: u8,
@@ -35,6 +40,7 @@ pub struct Figures {
     pub signature: u8,
     pub sleeps: bool,
     pub highest_bp: u8,
+    pub pe: bool,
 }
 
 impl Bench {
@@ -43,6 +49,8 @@ impl Bench {
     pub const SECTORS: usize = 4;
 
     pub const SECTOR_BYTES: usize = 1_024;
+
+    pub const SUBSECTOR_BYTES: usize = Self::SECTOR_BYTES;
 
     pub const MAKER: u8 = 0x00;
 
@@ -58,6 +66,8 @@ impl Bench {
 
     pub const HIGHEST_BP: u8 = 3;
 
+    pub const PE: bool = false;
+
     // The figures as one value.
     pub fn figures() -> Figures
         ensures { λ r. ⌜ r ≡ bench ⌝ }
@@ -66,6 +76,7 @@ impl Bench {
             bytes: Self::BYTES,
             sectors: Self::SECTORS,
             sector_bytes: Self::SECTOR_BYTES,
+            subsector_bytes: Self::SUBSECTOR_BYTES,
             maker: Self::MAKER,
             memory_type: Self::MEMORY_TYPE,
             capacity: Self::CAPACITY,
@@ -73,6 +84,7 @@ impl Bench {
             signature: Self::SIGNATURE,
             sleeps: Self::SLEEPS,
             highest_bp: Self::HIGHEST_BP,
+            pe: Self::PE,
         }
     }
 }
@@ -83,6 +95,8 @@ impl M25p10a {
     pub const SECTORS: usize = 4;
 
     pub const SECTOR_BYTES: usize = 32_768;
+
+    pub const SUBSECTOR_BYTES: usize = Self::SECTOR_BYTES;
 
     pub const MAKER: u8 = 0x20;
 
@@ -98,6 +112,8 @@ impl M25p10a {
 
     pub const HIGHEST_BP: u8 = 3;
 
+    pub const PE: bool = false;
+
     // The figures as one value.
     pub fn figures() -> Figures
         ensures { λ r. ⌜ r ≡ m25p10a ⌝ }
@@ -106,6 +122,7 @@ impl M25p10a {
             bytes: Self::BYTES,
             sectors: Self::SECTORS,
             sector_bytes: Self::SECTOR_BYTES,
+            subsector_bytes: Self::SUBSECTOR_BYTES,
             maker: Self::MAKER,
             memory_type: Self::MEMORY_TYPE,
             capacity: Self::CAPACITY,
@@ -113,6 +130,7 @@ impl M25p10a {
             signature: Self::SIGNATURE,
             sleeps: Self::SLEEPS,
             highest_bp: Self::HIGHEST_BP,
+            pe: Self::PE,
         }
     }
 }
@@ -123,6 +141,8 @@ impl M25p40 {
     pub const SECTORS: usize = 8;
 
     pub const SECTOR_BYTES: usize = 65_536;
+
+    pub const SUBSECTOR_BYTES: usize = Self::SECTOR_BYTES;
 
     pub const MAKER: u8 = 0x20;
 
@@ -138,6 +158,8 @@ impl M25p40 {
 
     pub const HIGHEST_BP: u8 = 7;
 
+    pub const PE: bool = false;
+
     // The figures as one value.
     pub fn figures() -> Figures
         ensures { λ r. ⌜ r ≡ m25p40 ⌝ }
@@ -146,6 +168,7 @@ impl M25p40 {
             bytes: Self::BYTES,
             sectors: Self::SECTORS,
             sector_bytes: Self::SECTOR_BYTES,
+            subsector_bytes: Self::SUBSECTOR_BYTES,
             maker: Self::MAKER,
             memory_type: Self::MEMORY_TYPE,
             capacity: Self::CAPACITY,
@@ -153,6 +176,7 @@ impl M25p40 {
             signature: Self::SIGNATURE,
             sleeps: Self::SLEEPS,
             highest_bp: Self::HIGHEST_BP,
+            pe: Self::PE,
         }
     }
 }
@@ -163,6 +187,8 @@ impl M25p32 {
     pub const SECTORS: usize = 64;
 
     pub const SECTOR_BYTES: usize = 65_536;
+
+    pub const SUBSECTOR_BYTES: usize = Self::SECTOR_BYTES;
 
     pub const MAKER: u8 = 0x20;
 
@@ -178,6 +204,8 @@ impl M25p32 {
 
     pub const HIGHEST_BP: u8 = 7;
 
+    pub const PE: bool = false;
+
     // The figures as one value.
     pub fn figures() -> Figures
         ensures { λ r. ⌜ r ≡ m25p32 ⌝ }
@@ -186,6 +214,7 @@ impl M25p32 {
             bytes: Self::BYTES,
             sectors: Self::SECTORS,
             sector_bytes: Self::SECTOR_BYTES,
+            subsector_bytes: Self::SUBSECTOR_BYTES,
             maker: Self::MAKER,
             memory_type: Self::MEMORY_TYPE,
             capacity: Self::CAPACITY,
@@ -193,6 +222,7 @@ impl M25p32 {
             signature: Self::SIGNATURE,
             sleeps: Self::SLEEPS,
             highest_bp: Self::HIGHEST_BP,
+            pe: Self::PE,
         }
     }
 }
@@ -203,6 +233,8 @@ impl M25p128 {
     pub const SECTORS: usize = 64;
 
     pub const SECTOR_BYTES: usize = 262_144;
+
+    pub const SUBSECTOR_BYTES: usize = Self::SECTOR_BYTES;
 
     pub const MAKER: u8 = 0x20;
 
@@ -218,6 +250,8 @@ impl M25p128 {
 
     pub const HIGHEST_BP: u8 = 7;
 
+    pub const PE: bool = false;
+
     // The figures as one value.
     pub fn figures() -> Figures
         ensures { λ r. ⌜ r ≡ m25p128 ⌝ }
@@ -226,6 +260,7 @@ impl M25p128 {
             bytes: Self::BYTES,
             sectors: Self::SECTORS,
             sector_bytes: Self::SECTOR_BYTES,
+            subsector_bytes: Self::SUBSECTOR_BYTES,
             maker: Self::MAKER,
             memory_type: Self::MEMORY_TYPE,
             capacity: Self::CAPACITY,
@@ -233,6 +268,7 @@ impl M25p128 {
             signature: Self::SIGNATURE,
             sleeps: Self::SLEEPS,
             highest_bp: Self::HIGHEST_BP,
+            pe: Self::PE,
         }
     }
 }
@@ -243,6 +279,8 @@ impl M25p10aOlder {
     pub const SECTORS: usize = M25p10a::SECTORS;
 
     pub const SECTOR_BYTES: usize = M25p10a::SECTOR_BYTES;
+
+    pub const SUBSECTOR_BYTES: usize = Self::SECTOR_BYTES;
 
     pub const MAKER: u8 = 0x00;
 
@@ -258,6 +296,8 @@ impl M25p10aOlder {
 
     pub const HIGHEST_BP: u8 = M25p10a::HIGHEST_BP;
 
+    pub const PE: bool = false;
+
     // The figures as one value.
     pub fn figures() -> Figures
         ensures { λ r. ⌜ r ≡ m25p10aOlder ⌝ }
@@ -266,6 +306,7 @@ impl M25p10aOlder {
             bytes: Self::BYTES,
             sectors: Self::SECTORS,
             sector_bytes: Self::SECTOR_BYTES,
+            subsector_bytes: Self::SUBSECTOR_BYTES,
             maker: Self::MAKER,
             memory_type: Self::MEMORY_TYPE,
             capacity: Self::CAPACITY,
@@ -273,6 +314,53 @@ impl M25p10aOlder {
             signature: Self::SIGNATURE,
             sleeps: Self::SLEEPS,
             highest_bp: Self::HIGHEST_BP,
+            pe: Self::PE,
+        }
+    }
+}
+
+impl M25pe40 {
+    pub const BYTES: usize = 524_288;
+
+    pub const SECTORS: usize = 8;
+
+    pub const SECTOR_BYTES: usize = 65_536;
+
+    pub const SUBSECTOR_BYTES: usize = 4_096;
+
+    pub const MAKER: u8 = 0x20;
+
+    pub const MEMORY_TYPE: u8 = 0x80;
+
+    pub const CAPACITY: u8 = 0x13;
+
+    pub const IDENTIFIES: bool = true;
+
+    pub const SIGNATURE: u8 = 0x00;
+
+    pub const SLEEPS: bool = true;
+
+    pub const HIGHEST_BP: u8 = 7;
+
+    pub const PE: bool = true;
+
+    // The figures as one value.
+    pub fn figures() -> Figures
+        ensures { λ r. ⌜ r ≡ m25pe40 ⌝ }
+    {
+        Figures {
+            bytes: Self::BYTES,
+            sectors: Self::SECTORS,
+            sector_bytes: Self::SECTOR_BYTES,
+            subsector_bytes: Self::SUBSECTOR_BYTES,
+            maker: Self::MAKER,
+            memory_type: Self::MEMORY_TYPE,
+            capacity: Self::CAPACITY,
+            identifies: Self::IDENTIFIES,
+            signature: Self::SIGNATURE,
+            sleeps: Self::SLEEPS,
+            highest_bp: Self::HIGHEST_BP,
+            pe: Self::PE,
         }
     }
 }
@@ -288,6 +376,7 @@ impl Figures {
             3 => M25p32::figures(),
             4 => M25p128::figures(),
             5 => M25p10aOlder::figures(),
+            6 => M25pe40::figures(),
             _ => Bench::figures(),
         }
     }
@@ -297,7 +386,7 @@ impl Figures {
 pub fn known(part: u8) -> bool
     ensures { λ r. ⌜ r ≡ knownPart part ⌝ }
 {
-    part <= 5
+    part <= 6
 }
 
 // How many of the highest sectors are protected. From BP 65 on the power is more than any number of sectors.

@@ -17,13 +17,14 @@ use Rattle.memory.specs.Memory as memory-is
 use Rattle.memory.specs.Missing.{missingAt, missing, pageOf}
 use Rattle.parts.specs.Parts.{figuresOf}
 use Rattle.parts.specs.Protected.{protectedOf}
+use Rattle.device.specs.Locks.{lockOf, locksSound, noLocks}
 use Rattle.device.specs.declared.Device.{Device}
 use Rattle.device.specs.Device.{sound, onZero, statusByte, moded, latched, settled, remembering, running, started, ended, latchAt}
 use Rattle.device.specs.Time.{afterCycle, finished}
 use Rattle.chip.specs.Table.{rowOf, addressOf}
-use Rattle.chip.specs.Answers.{hostNumber, inProtected, asNeeded, chipNumber, decided, verdictOf}
+use Rattle.chip.specs.Answers.{hostNumber, inProtected, asNeeded, chipNumber, decided, verdictOf, protectedAny, protectedAt}
 use Rattle.chip.specs.Line.{byRow, heard, heardRow, driven, lined}
-use Rattle.device.specs.Cycles.{noSlots, noCycle, pageCycle, sectorCycle, allCycle, settingsCycle, slotsSound, cycleSound, touched}
+use Rattle.device.specs.Cycles.{noSlots, noCycle, pageCycle, eraseCycle, allCycle, settingsCycle, slotsSound, cycleSound, touched, namedSound}
 use Rattle.chip.specs.Change.{cycleOf, missingOf, bpIn, turned}
 use Rattle.chip.specs.declared.Done.{Done}
 use Rattle.chip.specs.Outcome.{outcomeOf, transacted}
@@ -174,7 +175,7 @@ allCompute [] = true
 allCompute (k ∷ ks) = computes k && allCompute ks
 
 computed : T (allCompute cases)
-unfolding allCompute computes cases shownFrom chipFrom mapAt window sumAt memory-is.blank memory-is.filled memory-is.programmed memory-is.erased figuresOf protectedOf sound statusByte moded latched settled remembering running started ended latchAt afterCycle finished rowOf addressOf hostNumber inProtected asNeeded chipNumber decided verdictOf byRow heard heardRow driven noSlots noCycle pageCycle sectorCycle allCycle settingsCycle slotsSound cycleSound cycleOf touched missingOf missing missingAt pageOf memory-is.reached memory-is.landed ones onesIn bpIn turned outcomeOf transacted sent answerOf missedIn lined levelsOf rest onSelect onClock onHold nextPins changes ends takes moves anew shifted bitTaken movedOn clocked nextTaking nextFound atRest step seen tooLong oddSamples outputOf runAnswer
+unfolding allCompute computes cases shownFrom chipFrom mapAt window sumAt memory-is.blank memory-is.filled memory-is.programmed memory-is.erased figuresOf protectedOf sound statusByte moded latched settled remembering running started ended latchAt afterCycle finished rowOf addressOf hostNumber inProtected asNeeded chipNumber decided verdictOf byRow heard heardRow driven noSlots noCycle pageCycle eraseCycle allCycle settingsCycle slotsSound cycleSound cycleOf touched missingOf missing missingAt pageOf memory-is.reached memory-is.landed ones onesIn bpIn turned outcomeOf transacted sent answerOf missedIn lined levelsOf rest onSelect onClock onHold nextPins changes ends takes moves anew shifted bitTaken movedOn clocked nextTaking nextFound atRest step seen tooLong oddSamples outputOf runAnswer namedSound locksSound noLocks protectedAt protectedAny lockOf
 computed = tt
 
 -- what the promise admits at a case is what was computed

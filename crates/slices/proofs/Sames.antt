@@ -38,7 +38,7 @@ and-assoc : (a b c : Bool) → a && (b && c) ≡ a && b && c
 and-assoc true b c = refl
 and-assoc false b c = refl
 
-and-end : (a : Bool) → a && true ≡ a
+pub and-end : (a : Bool) → a && true ≡ a
 and-end true = refl
 and-end false = refl
 
@@ -50,8 +50,8 @@ same-next xs ys i all e h k = e ∙ rw (drop-cons xs i 0 h, drop-cons ys i 0 k, 
 pub same-end : (xs ys : List ℕ) (i : ℕ) (all : Bool) {r : Bool} → r ≡ all && sameBytes (drop i xs) (drop i ys) → length xs ≤ i → length ys ≤ i → all ≡ r
 same-end xs ys i all e h k = sym (e ∙ rw (drop-of-length-le xs h, drop-of-length-le ys k) (and-end all))
 
--- a list that is compared with other bytes and its own rest: the front alone decides
-pub same-front : (ys xs : List ℕ) → length ys ≤ length xs → sameBytes xs (ys ++ drop (length ys) xs) ≡ sameBytes (take (length ys) xs) ys
-same-front [] xs h = same-self xs
-same-front (y ∷ ys) [] h = absurd (not-suc-le-zero h)
-same-front (y ∷ ys) (x ∷ xs) h = ap (λ (b : Bool). eqb x y && b) (same-front ys xs (le-of-suc-le-suc h))
+-- a list that is compared with bytes and more bytes: its front with the first, its rest with the others
+pub same-cut : (ys xs zs : List ℕ) → length ys ≤ length xs → sameBytes xs (ys ++ zs) ≡ sameBytes (take (length ys) xs) ys && sameBytes (drop (length ys) xs) zs
+same-cut [] xs zs h = refl
+same-cut (y ∷ ys) [] zs h = absurd (not-suc-le-zero h)
+same-cut (y ∷ ys) (x ∷ xs) zs h = ap (λ (b : Bool). eqb x y && b) (same-cut ys xs zs (le-of-suc-le-suc h)) ∙ and-assoc (eqb x y) _ _

@@ -49,11 +49,13 @@ stored-then a p q i x = go (leb a i) refl (leb (a + length p) i) refl
         rw (e, f) (sym (List·getD-append p q x (i - a) (omega arith)))
     go false e t f = let h : i < a = leb-false a i e in rw (e, lt-leb (a + length p) i (omega arith))
 
--- p stands at the front, and q is stored behind it
+-- p stands from a place on, and q is stored behind it
+pub store-behind : (a at : ℕ) (p q xs : List ℕ) {ys zs : List ℕ} → ys ≡ mapAt (stored a p) xs → a + length p ≡ at → zs ≡ mapAt (stored at q) ys → zs ≡ mapAt (stored a (p ++ q)) xs
+store-behind a at p q xs e l f = f ∙ ap (mapAt (stored at q)) e ∙ map-then (stored a p) (stored at q) xs ∙ map-ext _ _ (λ i x. rw (← l) (stored-then a p q i x)) xs
+
+-- the same where p stands at the front
 pub store-next : (at : ℕ) (p q xs : List ℕ) {ys zs : List ℕ} → ys ≡ mapAt (stored 0 p) xs → length p ≡ at → zs ≡ mapAt (stored at q) ys → zs ≡ mapAt (stored 0 (p ++ q)) xs
-store-next at p q xs e l f =
-    f ∙ ap (mapAt (stored at q)) e ∙ map-then (stored 0 p) (stored at q) xs
-    ∙ map-ext _ _ (λ i x. rw (← l, ← zero-add (length p)) (stored-then 0 p q i x)) xs
+store-next at p q xs e l f = store-behind 0 at p q xs e (zero-add (length p) ∙ l) f
 
 -- bytes stored over as many
 pub stored-whole : (p xs : List ℕ) → length p ≡ length xs → mapAt (stored 0 p) xs ≡ p

@@ -23,6 +23,10 @@ word-rest at start xs e = rw (byte 0, add-zero at, byte 1, byte 2, byte 3)
     byte : (k : ℕ) → getD (take (length xs - start) (drop start xs)) k 0 ≡ getD xs (at + k) 0
     byte k = rw (take-all (length xs - start) (drop start xs) (omega (arith, length-drop start xs)), getD-drop) (placed k (leb at (length xs)) refl)
 
+-- read from a place on, or from the front of what is left there
+pub word-drop : (at : ℕ) (xs : List ℕ) → wordAt xs at ≡ wordAt (drop at xs) 0
+word-drop at xs = sym (rw (getD-drop at xs 0 0, getD-drop at xs 1 0, getD-drop at xs 2 0, getD-drop at xs 3 0, add-zero at))
+
 -- the number of a number's four bytes
 pub word-number : (n : ℕ) → n < 2 ^ 32 → wordAt (word n) 0 ≡ n
 word-number n h =

@@ -9,15 +9,16 @@ use Rattle.slices.specs.Changed.{mapAt, put}
 use Rattle.slices.specs.Chosen.{onZero}
 use Rattle.parts.specs.Parts.{figuresOf}
 use Rattle.parts.specs.Protected.{protectedOf}
+use Rattle.device.specs.Locks.{lockOf, locksSound, noLocks}
 use Rattle.device.specs.declared.Mode.the-variants.{Standby, Deep}
 use Rattle.device.specs.declared.Device.{Device}
 use Rattle.device.specs.declared.cycle.Cycle.{Cycle}
-use Rattle.device.specs.Cycles.{noSlots, noCycle, slotsSound, cycleSound}
+use Rattle.device.specs.Cycles.{noSlots, noCycle, slotsSound, cycleSound, namedSound}
 use Rattle.device.specs.Device.{sound, latchAt, zeroRecord, delivered, remembering}
 use Rattle.chip.specs.declared.answers.Verdict.{Verdict}
 use Rattle.chip.specs.declared.answers.Verdict.the-variants.{Refused, Ignored, Executed}
 use Rattle.chip.specs.Table.{rowOf, addressOf}
-use Rattle.chip.specs.Answers.{deliveryAnswer, hostNumber, inProtected, asNeeded, chipNumber, decided, verdictOf}
+use Rattle.chip.specs.Answers.{deliveryAnswer, hostNumber, inProtected, asNeeded, chipNumber, decided, verdictOf, protectedAny, protectedAt}
 use Rattle.chip.specs.Worked.{record-of, bench, usual}
 use Rattle.told.specs.Cycles.{full, none, programming, erasing-sector, erasing-all, writing, busy-of, mid-erase}
 
@@ -27,9 +28,9 @@ use Rattle.told.specs.Cycles.{full, none, programming, erasing-sector, e
 abbrev pub unsound : Device
 unsound = bench 4 false true
 
--- the bytes of each part, as document 01 has them, and of the older M25P10-A
+-- the bytes of each part, as document 01 has them, of the older M25P10-A and of the M25PE40
 abbrev pub sizes : List ℕ
-sizes = 4096 ∷ 131072 ∷ 524288 ∷ 4194304 ∷ 16777216 ∷ 131072 ∷ []
+sizes = 4096 ∷ 131072 ∷ 524288 ∷ 4194304 ∷ 16777216 ∷ 131072 ∷ 524288 ∷ []
 
 -- what a delivery of a part answers on arrays of these lengths
 abbrev pub delivers : ℕ → List ℕ → List ℕ
@@ -45,22 +46,24 @@ borders = 0 ∷ 1 ∷ 1000000 ∷ 1000001 ∷ []
 
 -- what the host side answers
 pub record Host : Type 0 where
-  -- delivery, 1: part above 5
-  pub one : map (λ (p : ℕ). deliveryAnswer p 4096 3 5 9 2) (0 ∷ 6 ∷ 255 ∷ 256 ∷ []) ≡ 0 ∷ 1 ∷ 1 ∷ 1 ∷ []
+  -- delivery, 1: part above 6
+  pub one : map (λ (p : ℕ). deliveryAnswer p 4096 3 5 9 2) (0 ∷ 7 ∷ 255 ∷ 256 ∷ []) ≡ 0 ∷ 1 ∷ 1 ∷ 1 ∷ []
   -- delivery and transaction, 2: every length but the part's own
-  pub two-bench : delivers 0 sizes ≡ 0 ∷ 2 ∷ 2 ∷ 2 ∷ 2 ∷ 2 ∷ []
-  pub two-m25p10a : delivers 1 sizes ≡ 2 ∷ 0 ∷ 2 ∷ 2 ∷ 2 ∷ 0 ∷ []
-  pub two-m25p40 : delivers 2 sizes ≡ 2 ∷ 2 ∷ 0 ∷ 2 ∷ 2 ∷ 2 ∷ []
-  pub two-m25p32 : delivers 3 sizes ≡ 2 ∷ 2 ∷ 2 ∷ 0 ∷ 2 ∷ 2 ∷ []
-  pub two-m25p128 : delivers 4 sizes ≡ 2 ∷ 2 ∷ 2 ∷ 2 ∷ 0 ∷ 2 ∷ []
-  pub two-older : delivers 5 sizes ≡ 2 ∷ 0 ∷ 2 ∷ 2 ∷ 2 ∷ 0 ∷ []
+  pub two-bench : delivers 0 sizes ≡ 0 ∷ 2 ∷ 2 ∷ 2 ∷ 2 ∷ 2 ∷ 2 ∷ []
+  pub two-m25p10a : delivers 1 sizes ≡ 2 ∷ 0 ∷ 2 ∷ 2 ∷ 2 ∷ 0 ∷ 2 ∷ []
+  pub two-m25p40 : delivers 2 sizes ≡ 2 ∷ 2 ∷ 0 ∷ 2 ∷ 2 ∷ 2 ∷ 0 ∷ []
+  pub two-m25p32 : delivers 3 sizes ≡ 2 ∷ 2 ∷ 2 ∷ 0 ∷ 2 ∷ 2 ∷ 2 ∷ []
+  pub two-m25p128 : delivers 4 sizes ≡ 2 ∷ 2 ∷ 2 ∷ 2 ∷ 0 ∷ 2 ∷ 2 ∷ []
+  pub two-older : delivers 5 sizes ≡ 2 ∷ 0 ∷ 2 ∷ 2 ∷ 2 ∷ 0 ∷ 2 ∷ []
+  pub two-m25pe40 : delivers 6 sizes ≡ 2 ∷ 2 ∷ 0 ∷ 2 ∷ 2 ∷ 2 ∷ 0 ∷ []
   pub two-near : delivers 0 (0 ∷ 4095 ∷ 4097 ∷ []) ≡ 2 ∷ 2 ∷ 2 ∷ []
-  pub takes-bench : takes 0 sizes ≡ 0 ∷ 2 ∷ 2 ∷ 2 ∷ 2 ∷ 2 ∷ []
-  pub takes-m25p10a : takes 1 sizes ≡ 2 ∷ 0 ∷ 2 ∷ 2 ∷ 2 ∷ 0 ∷ []
-  pub takes-m25p40 : takes 2 sizes ≡ 2 ∷ 2 ∷ 0 ∷ 2 ∷ 2 ∷ 2 ∷ []
-  pub takes-m25p32 : takes 3 sizes ≡ 2 ∷ 2 ∷ 2 ∷ 0 ∷ 2 ∷ 2 ∷ []
-  pub takes-m25p128 : takes 4 sizes ≡ 2 ∷ 2 ∷ 2 ∷ 2 ∷ 0 ∷ 2 ∷ []
-  pub takes-older : takes 5 sizes ≡ 2 ∷ 0 ∷ 2 ∷ 2 ∷ 2 ∷ 0 ∷ []
+  pub takes-bench : takes 0 sizes ≡ 0 ∷ 2 ∷ 2 ∷ 2 ∷ 2 ∷ 2 ∷ 2 ∷ []
+  pub takes-m25p10a : takes 1 sizes ≡ 2 ∷ 0 ∷ 2 ∷ 2 ∷ 2 ∷ 0 ∷ 2 ∷ []
+  pub takes-m25p40 : takes 2 sizes ≡ 2 ∷ 2 ∷ 0 ∷ 2 ∷ 2 ∷ 2 ∷ 0 ∷ []
+  pub takes-m25p32 : takes 3 sizes ≡ 2 ∷ 2 ∷ 2 ∷ 0 ∷ 2 ∷ 2 ∷ 2 ∷ []
+  pub takes-m25p128 : takes 4 sizes ≡ 2 ∷ 2 ∷ 2 ∷ 2 ∷ 0 ∷ 2 ∷ 2 ∷ []
+  pub takes-older : takes 5 sizes ≡ 2 ∷ 0 ∷ 2 ∷ 2 ∷ 2 ∷ 0 ∷ 2 ∷ []
+  pub takes-m25pe40 : takes 6 sizes ≡ 2 ∷ 2 ∷ 0 ∷ 2 ∷ 2 ∷ 2 ∷ 0 ∷ []
   pub takes-near : takes 4 (0 ∷ 16777215 ∷ 16777217 ∷ []) ≡ 2 ∷ 2 ∷ 2 ∷ []
   -- delivery, 7: a duration outside 1 to 1,000,000
   pub seven-program : map (λ (x : ℕ). deliveryAnswer 0 4096 x 5 9 2) borders ≡ 7 ∷ 0 ∷ 0 ∷ 7 ∷ []
@@ -68,10 +71,10 @@ pub record Host : Type 0 where
   pub seven-bulk : map (λ (x : ℕ). deliveryAnswer 0 4096 3 5 x 2) borders ≡ 7 ∷ 0 ∷ 0 ∷ 7 ∷ []
   pub seven-status : map (λ (x : ℕ). deliveryAnswer 0 4096 3 5 9 x) borders ≡ 7 ∷ 0 ∷ 0 ∷ 7 ∷ []
   -- delivery in order, each with all that come after it: 1, 2, 7
-  pub delivery-order : deliveryAnswer 6 0 0 5 9 2 ∷ deliveryAnswer 0 0 0 5 9 2 ∷ deliveryAnswer 0 4096 0 5 9 2 ∷ deliveryAnswer 0 4096 3 5 9 2 ∷ [] ≡ 1 ∷ 2 ∷ 7 ∷ 0 ∷ []
+  pub delivery-order : deliveryAnswer 7 0 0 5 9 2 ∷ deliveryAnswer 0 0 0 5 9 2 ∷ deliveryAnswer 0 4096 0 5 9 2 ∷ deliveryAnswer 0 4096 3 5 9 2 ∷ [] ≡ 1 ∷ 2 ∷ 7 ∷ 0 ∷ []
   -- an executed delivery gives the record as delivered and an array all FF; a refused one the all-zero record, and leaves the array
-  pub given : onZero 0 (delivered 2 3 5 9 2) zeroRecord ≡ record { part = 2; bp = 0; srwd = false; latch = false; mode = Standby; program = 3; «sector_erase» = 5; «bulk_erase» = 9; «write_status» = 2; cycle = none }
-  pub not-given : onZero 7 (delivered 2 3 5 9 2) zeroRecord ≡ record { part = 0; bp = 0; srwd = false; latch = false; mode = Standby; program = 0; «sector_erase» = 0; «bulk_erase» = 0; «write_status» = 0; cycle = none }
+  pub given : onZero 0 (delivered 2 3 5 9 2) zeroRecord ≡ record { part = 2; bp = 0; srwd = false; latch = false; mode = Standby; program = 3; «sector_erase» = 5; «bulk_erase» = 9; «write_status» = 2; cycle = none; locks = noLocks }
+  pub not-given : onZero 7 (delivered 2 3 5 9 2) zeroRecord ≡ record { part = 0; bp = 0; srwd = false; latch = false; mode = Standby; program = 0; «sector_erase» = 0; «bulk_erase» = 0; «write_status» = 0; cycle = none; locks = noLocks }
   pub erased : onZero 0 (mapAt (put 255) (0x00 ∷ 0x5A ∷ 0xFF ∷ [])) (0x00 ∷ 0x5A ∷ 0xFF ∷ []) ≡ 0xFF ∷ 0xFF ∷ 0xFF ∷ []
   pub left : onZero 1 (mapAt (put 255) (0x00 ∷ 0x5A ∷ 0xFF ∷ [])) (0x00 ∷ 0x5A ∷ 0xFF ∷ []) ≡ 0x00 ∷ 0x5A ∷ 0xFF ∷ []
   -- transaction, 6: the record not sound
@@ -89,7 +92,7 @@ pub record Host : Type 0 where
 
 -- computed by the checker
 pub host : Host
-unfolding deliveryAnswer hostNumber sound latchAt noSlots noCycle slotsSound cycleSound figuresOf zeroRecord delivered remembering mapAt
+unfolding deliveryAnswer hostNumber sound latchAt noSlots noCycle slotsSound cycleSound figuresOf zeroRecord delivered remembering mapAt namedSound locksSound noLocks
 host = record {
   one = refl;
   two-bench = refl;
@@ -98,6 +101,7 @@ host = record {
   two-m25p32 = refl;
   two-m25p128 = refl;
   two-older = refl;
+  two-m25pe40 = refl;
   two-near = refl;
   takes-bench = refl;
   takes-m25p10a = refl;
@@ -105,6 +109,7 @@ host = record {
   takes-m25p32 = refl;
   takes-m25p128 = refl;
   takes-older = refl;
+  takes-m25pe40 = refl;
   takes-near = refl;
   seven-program = refl;
   seven-sector = refl;
@@ -266,7 +271,7 @@ pub record Chip : Type 0 where
 
 -- computed by the checker
 pub chip : Chip
-unfolding hostNumber sound latchAt noSlots noCycle slotsSound cycleSound figuresOf inProtected asNeeded chipNumber decided verdictOf rowOf addressOf protectedOf
+unfolding hostNumber sound latchAt noSlots noCycle slotsSound cycleSound figuresOf inProtected asNeeded chipNumber decided verdictOf rowOf addressOf protectedOf namedSound locksSound noLocks protectedAt protectedAny lockOf
 chip = record {
   ready = refl;
   ready-m25p10a = refl;

@@ -10,13 +10,14 @@ use Rattle.memory.specs.Memory as memory-is
 use Rattle.memory.specs.Missing.{missingAt, missing, pageOf}
 use Rattle.parts.specs.Parts.{figuresOf}
 use Rattle.parts.specs.Protected.{protectedOf}
+use Rattle.device.specs.Locks.{lockOf, locksSound, noLocks}
 use Rattle.device.specs.Chip.{Chip}
-use Rattle.device.specs.Cycles.{noSlots, noCycle, pageCycle, sectorCycle, allCycle, settingsCycle, slotsSound, cycleSound, touched, cut}
-use Rattle.device.specs.Device.{sound, latchAt, moded, latched, settled, remembering, running, started, ended, zeroRecord, statusByte, delivered}
-use Rattle.device.specs.Time.{Timed, afterCycle, finished, lost, waited, timeNumber, waitCall, powerUpCall, lossCall}
+use Rattle.device.specs.Cycles.{noSlots, noCycle, pageCycle, eraseCycle, allCycle, settingsCycle, slotsSound, cycleSound, touched, cut, namedSound}
+use Rattle.device.specs.Device.{sound, latchAt, moded, latched, settled, remembering, running, started, ended, zeroRecord, statusByte, delivered, locked}
+use Rattle.device.specs.Time.{Timed, afterCycle, finished, lost, waited, timeNumber, waitCall, powerUpCall, lossCall, poweredUp, unlocked}
 use Rattle.device.specs.Packing.{frontOf, packOf, fieldsOf, formed, unpackAnswer, unpackOf}
 use Rattle.chip.specs.Table.{rowOf, addressOf}
-use Rattle.chip.specs.Answers.{deliveryAnswer, hostNumber, inProtected, asNeeded, chipNumber, decided, verdictOf}
+use Rattle.chip.specs.Answers.{deliveryAnswer, hostNumber, inProtected, asNeeded, chipNumber, decided, verdictOf, protectedAny, protectedAt}
 use Rattle.chip.specs.Line.{byRow, heard, heardRow, driven, lined, drivingAt, firstOf, countOf}
 use Rattle.chip.specs.Change.{cycleOf, missingOf, bpIn, turned}
 use Rattle.chip.specs.Outcome.{bare, outcomeOf, transacted}
@@ -30,13 +31,13 @@ use Rattle.told.specs.TimeCalls.{all-3C, second-page, second-sector}
 abbrev pub front : ℕ → ℕ → ℕ → ℕ → List ℕ
 front s l m t = 0 ∷ 0 ∷ s ∷ l ∷ m ∷ 0 ∷ 0 ∷ 0 ∷ t ∷ 0 ∷ 0 ∷ 0 ∷ 3 ∷ 0 ∷ 0 ∷ 0 ∷ 5 ∷ 0 ∷ 0 ∷ 0 ∷ 9 ∷ 0 ∷ 0 ∷ 0 ∷ 2 ∷ 0 ∷ 0 ∷ 0 ∷ []
 
--- the whole 292, outside a cycle
+-- the whole 304, outside a cycle
 abbrev pub packed : ℕ → ℕ → ℕ → ℕ → List ℕ
-packed s l m t = front s l m t ++ replicate 264 0
+packed s l m t = front s l m t ++ replicate 276 0
 
 -- SRWD 1, in a cycle: latch byte and ticks left, the kind, the new BP and the new SRWD, the two low bytes of the address, the slots
 abbrev pub cycling : ℕ → ℕ → ℕ → ℕ → ℕ → ℕ → ℕ → List ℕ → List ℕ
-cycling l t k b w a0 a1 slots = front 1 l 1 t ++ ((k ∷ b ∷ w ∷ 0 ∷ a0 ∷ a1 ∷ 0 ∷ 0 ∷ []) ++ slots)
+cycling l t k b w a0 a1 slots = front 1 l 1 t ++ ((k ∷ b ∷ w ∷ 0 ∷ a0 ∷ a1 ∷ 0 ∷ 0 ∷ []) ++ (slots ++ replicate 12 0))
 
 -- standby, SRWD 1, latch set
 abbrev pub set-up : List ℕ
@@ -64,7 +65,7 @@ writes l t = cycling l t 4 2 0 0 0 (replicate 256 0)
 
 -- the same with BP 2 and SRWD 0, at rest
 abbrev pub resettled : List ℕ
-resettled = 0 ∷ 2 ∷ 0 ∷ 0 ∷ 0 ∷ 0 ∷ 0 ∷ 0 ∷ 0 ∷ 0 ∷ 0 ∷ 0 ∷ 3 ∷ 0 ∷ 0 ∷ 0 ∷ 5 ∷ 0 ∷ 0 ∷ 0 ∷ 9 ∷ 0 ∷ 0 ∷ 0 ∷ 2 ∷ 0 ∷ 0 ∷ 0 ∷ replicate 264 0
+resettled = 0 ∷ 2 ∷ 0 ∷ 0 ∷ 0 ∷ 0 ∷ 0 ∷ 0 ∷ 0 ∷ 0 ∷ 0 ∷ 0 ∷ 3 ∷ 0 ∷ 0 ∷ 0 ∷ 5 ∷ 0 ∷ 0 ∷ 0 ∷ 9 ∷ 0 ∷ 0 ∷ 0 ∷ 2 ∷ 0 ∷ 0 ∷ 0 ∷ replicate 276 0
 
 -- ---- the calls
 
@@ -112,9 +113,9 @@ powers-up bytes array = called powerUpCall bytes array
 abbrev pub loses : List ℕ → List ℕ → List ℕ → ℕ → Back
 loses bytes array mask said = called (λ (c : Chip). lossCall c mask (high said)) bytes array
 
--- 291, 292 and 293 bytes FF, and the 28 bytes of a record without its cycle
+-- 303, 304 and 305 bytes FF, the 28 bytes of a record without its cycle, and 292 without what stands behind its slots
 abbrev pub bad-ones : List (List ℕ)
-bad-ones = replicate 291 0xFF ∷ replicate 292 0xFF ∷ replicate 293 0xFF ∷ front 1 1 0 0 ∷ []
+bad-ones = replicate 303 0xFF ∷ replicate 304 0xFF ∷ replicate 305 0xFF ∷ front 1 1 0 0 ∷ (front 1 1 0 0 ++ replicate 264 0) ∷ []
 
 -- transactions and deliveries
 pub record Told : Type 0 where
@@ -128,11 +129,11 @@ pub record Told : Type 0 where
   pub w : map high (0 ∷ 1 ∷ 2 ∷ 256 ∷ 4294967295 ∷ []) ≡ false ∷ true ∷ true ∷ true ∷ true ∷ []
   pub frozen : sent set-up 4096 (0x01 ∷ 0 ∷ []) 0 0 2 ∷ sent set-up 4096 (0x01 ∷ 0 ∷ []) 0 1 2 ∷ sent set-up 4096 (0x01 ∷ 0 ∷ []) 0 256 2 ∷ [] ≡ 18 ∷ 0 ∷ 0 ∷ []
   -- a transaction in order, each with all that come after it: 8, 6, 2, 3, 4, 5
-  pub order : sent (replicate 291 0xFF) 0 (replicate 65537 5) 8 1 0 ∷ sent (replicate 292 0xFF) 0 (replicate 65537 5) 8 1 0 ∷ sent set-up 0 (replicate 65537 5) 8 1 0 ∷ sent set-up 4096 (replicate 65537 5) 8 1 0 ∷ sent set-up 4096 (0x05 ∷ []) 8 1 0 ∷ sent set-up 4096 (0x05 ∷ []) 7 1 0 ∷ sent set-up 4096 (0x05 ∷ []) 7 1 1 ∷ [] ≡ 8 ∷ 6 ∷ 2 ∷ 3 ∷ 4 ∷ 5 ∷ 0 ∷ []
-  pub lengths : map (λ (b : List ℕ). sent b 4096 (0x05 ∷ []) 0 1 1) bad-ones ≡ 8 ∷ 6 ∷ 8 ∷ 8 ∷ []
-  -- a delivery in order: 8, 1, 2, 7; what the 292 bytes were does not matter
-  pub deliveries : deliveryC (replicate 291 0xFF) 6 0 0 5 9 2 ∷ deliveryC (replicate 28 0xFF) 6 0 0 5 9 2 ∷ deliveryC (replicate 292 0xFF) 6 0 0 5 9 2 ∷ deliveryC (replicate 292 0xFF) 0 0 0 5 9 2 ∷ deliveryC (replicate 292 0xFF) 0 4096 0 5 9 2 ∷ deliveryC (replicate 292 0xFF) 0 4096 3 5 9 2 ∷ [] ≡ 8 ∷ 8 ∷ 1 ∷ 2 ∷ 7 ∷ 0 ∷ []
-  pub given : packedBy 0 (delivered 0 3 5 9 2) (replicate 292 0xFF) ≡ packed 0 0 0 0
+  pub order : sent (replicate 303 0xFF) 0 (replicate 65537 5) 8 1 0 ∷ sent (replicate 304 0xFF) 0 (replicate 65537 5) 8 1 0 ∷ sent set-up 0 (replicate 65537 5) 8 1 0 ∷ sent set-up 4096 (replicate 65537 5) 8 1 0 ∷ sent set-up 4096 (0x05 ∷ []) 8 1 0 ∷ sent set-up 4096 (0x05 ∷ []) 7 1 0 ∷ sent set-up 4096 (0x05 ∷ []) 7 1 1 ∷ [] ≡ 8 ∷ 6 ∷ 2 ∷ 3 ∷ 4 ∷ 5 ∷ 0 ∷ []
+  pub lengths : map (λ (b : List ℕ). sent b 4096 (0x05 ∷ []) 0 1 1) bad-ones ≡ 8 ∷ 6 ∷ 8 ∷ 8 ∷ 8 ∷ []
+  -- a delivery in order: 8, 1, 2, 7; what the 304 bytes were does not matter
+  pub deliveries : deliveryC (replicate 303 0xFF) 7 0 0 5 9 2 ∷ deliveryC (replicate 28 0xFF) 7 0 0 5 9 2 ∷ deliveryC (replicate 292 0xFF) 7 0 0 5 9 2 ∷ deliveryC (replicate 304 0xFF) 7 0 0 5 9 2 ∷ deliveryC (replicate 304 0xFF) 0 0 0 5 9 2 ∷ deliveryC (replicate 304 0xFF) 0 4096 0 5 9 2 ∷ deliveryC (replicate 304 0xFF) 0 4096 3 5 9 2 ∷ [] ≡ 8 ∷ 8 ∷ 8 ∷ 1 ∷ 2 ∷ 7 ∷ 0 ∷ []
+  pub given : packedBy 0 (delivered 0 3 5 9 2) (replicate 304 0xFF) ≡ packed 0 0 0 0
   -- the packed bytes after an executed call: a program at FFF1FF, a sector erase at FFF7FF, a bulk erase, a write of BP 2 and SRWD 0; the latch reset, deep power-down
   pub programmed : after set-up (0x02 ∷ 0xFF ∷ 0xF1 ∷ 0xFF ∷ 0x11 ∷ 0x22 ∷ 0x33 ∷ []) ≡ cycling 1 3 1 0 0 0xFF 0x01 (0x22 ∷ 0x33 ∷ (replicate 253 0xFF ++ (0x11 ∷ [])))
   pub erased : after set-up (0xD8 ∷ 0xFF ∷ 0xF7 ∷ 0xFF ∷ []) ≡ erases 1 5
@@ -148,7 +149,7 @@ pub record Told : Type 0 where
 
 -- computed by the checker
 pub told : Told
-unfolding mapAt window sumAt memory-is.blank memory-is.filled figuresOf protectedOf sound latchAt moded latched settled remembering running started ended zeroRecord statusByte delivered frontOf packOf fieldsOf formed unpackAnswer unpackOf rowOf addressOf deliveryAnswer hostNumber inProtected asNeeded chipNumber decided verdictOf byRow heard heardRow driven lined drivingAt firstOf countOf noSlots noCycle pageCycle sectorCycle allCycle settingsCycle slotsSound cycleSound cycleOf missingOf missing missingAt pageOf memory-is.reached memory-is.landed ones onesIn bpIn turned outcomeOf transacted packedAnswer transactedC deliveryC
+unfolding mapAt window sumAt memory-is.blank memory-is.filled figuresOf protectedOf sound latchAt moded latched settled remembering running started ended zeroRecord statusByte delivered frontOf packOf fieldsOf formed unpackAnswer unpackOf rowOf addressOf deliveryAnswer hostNumber inProtected asNeeded chipNumber decided verdictOf byRow heard heardRow driven lined drivingAt firstOf countOf noSlots noCycle pageCycle eraseCycle allCycle settingsCycle slotsSound cycleSound cycleOf missingOf missing missingAt pageOf memory-is.reached memory-is.landed ones onesIn bpIn turned outcomeOf transacted packedAnswer transactedC deliveryC namedSound locksSound noLocks protectedAt protectedAny lockOf
 told = record {
   bits = refl;
   most-bits = refl;
@@ -194,9 +195,9 @@ pub record Timings : Type 0 where
   -- yes is no for 0, else yes
   pub words : map (λ (said : ℕ). loses (writes 1 2) all-3C some-mask said .bytes) (0 ∷ 1 ∷ 2 ∷ 256 ∷ 4294967295 ∷ []) ≡ at-rest ∷ replicate 4 resettled
   -- 8, then 6: nothing is written
-  pub waits-bad : map (λ (b : List ℕ). waits b (0x3C ∷ []) 5) bad-ones ≡ back 8 (replicate 291 0xFF) (0x3C ∷ []) ∷ back 6 (replicate 292 0xFF) (0x3C ∷ []) ∷ back 8 (replicate 293 0xFF) (0x3C ∷ []) ∷ back 8 (front 1 1 0 0) (0x3C ∷ []) ∷ []
-  pub powers-bad : map (λ (b : List ℕ). powers-up b (0x3C ∷ [])) bad-ones ≡ back 8 (replicate 291 0xFF) (0x3C ∷ []) ∷ back 6 (replicate 292 0xFF) (0x3C ∷ []) ∷ back 8 (replicate 293 0xFF) (0x3C ∷ []) ∷ back 8 (front 1 1 0 0) (0x3C ∷ []) ∷ []
-  pub loses-bad : map (λ (b : List ℕ). loses b (0x3C ∷ []) [] 1) bad-ones ≡ back 8 (replicate 291 0xFF) (0x3C ∷ []) ∷ back 6 (replicate 292 0xFF) (0x3C ∷ []) ∷ back 8 (replicate 293 0xFF) (0x3C ∷ []) ∷ back 8 (front 1 1 0 0) (0x3C ∷ []) ∷ []
+  pub waits-bad : map (λ (b : List ℕ). waits b (0x3C ∷ []) 5) bad-ones ≡ back 8 (replicate 303 0xFF) (0x3C ∷ []) ∷ back 6 (replicate 304 0xFF) (0x3C ∷ []) ∷ back 8 (replicate 305 0xFF) (0x3C ∷ []) ∷ back 8 (front 1 1 0 0) (0x3C ∷ []) ∷ back 8 (front 1 1 0 0 ++ replicate 264 0) (0x3C ∷ []) ∷ []
+  pub powers-bad : map (λ (b : List ℕ). powers-up b (0x3C ∷ [])) bad-ones ≡ back 8 (replicate 303 0xFF) (0x3C ∷ []) ∷ back 6 (replicate 304 0xFF) (0x3C ∷ []) ∷ back 8 (replicate 305 0xFF) (0x3C ∷ []) ∷ back 8 (front 1 1 0 0) (0x3C ∷ []) ∷ back 8 (front 1 1 0 0 ++ replicate 264 0) (0x3C ∷ []) ∷ []
+  pub loses-bad : map (λ (b : List ℕ). loses b (0x3C ∷ []) [] 1) bad-ones ≡ back 8 (replicate 303 0xFF) (0x3C ∷ []) ∷ back 6 (replicate 304 0xFF) (0x3C ∷ []) ∷ back 8 (replicate 305 0xFF) (0x3C ∷ []) ∷ back 8 (front 1 1 0 0) (0x3C ∷ []) ∷ back 8 (front 1 1 0 0 ++ replicate 264 0) (0x3C ∷ []) ∷ []
   -- then 2, then 41: nothing is written either
   pub short-array : waits (programs 1 3) (replicate 4095 0x3C) 3 ∷ powers-up (programs 1 3) (replicate 4095 0x3C) ∷ loses (programs 1 3) (replicate 4095 0x3C) [] 1 ∷ [] ≡ replicate 3 (back 2 (programs 1 3) (replicate 4095 0x3C))
   pub short-mask : loses (programs 1 3) all-3C (replicate 255 0) 1 ∷ loses (programs 1 3) all-3C (replicate 257 0) 1 ∷ [] ≡ replicate 2 (back 41 (programs 1 3) all-3C)
@@ -205,7 +206,7 @@ pub record Timings : Type 0 where
 
 -- computed by the checker
 pub timings : Timings
-unfolding mapAt memory-is.programmed memory-is.erased memory-is.cutPage memory-is.cutSector figuresOf sound latchAt moded settled remembering running ended zeroRecord delivered frontOf packOf fieldsOf formed unpackAnswer unpackOf noSlots noCycle slotsSound cycleSound touched cut afterCycle finished lost waited timeNumber waitCall powerUpCall lossCall packedAnswer timedC
+unfolding mapAt memory-is.programmed memory-is.erased memory-is.cutPage memory-is.cutSector figuresOf sound latchAt moded settled remembering running ended zeroRecord delivered frontOf packOf fieldsOf formed unpackAnswer unpackOf noSlots noCycle slotsSound cycleSound touched cut afterCycle finished lost waited timeNumber waitCall powerUpCall lossCall packedAnswer timedC namedSound locksSound noLocks unlocked locked poweredUp
 timings = record {
   falls = refl;
   falls-last = refl;

@@ -10,14 +10,15 @@ use Rattle.memory.specs.Memory as memory-is
 use Rattle.memory.specs.Missing.{missingAt, missing, pageOf}
 use Rattle.parts.specs.Parts.{figuresOf}
 use Rattle.parts.specs.Protected.{protectedOf}
+use Rattle.device.specs.Locks.{lockOf, locksSound, noLocks}
 use Rattle.device.specs.declared.Mode.the-variants.{Deep}
 use Rattle.device.specs.declared.Device.{Device}
-use Rattle.device.specs.Device.{sound, statusByte, moded, latched, settled, remembering, running, started, ended, latchAt}
-use Rattle.device.specs.Time.{afterCycle, finished, lost, waited, timeNumber, waitCall, powerUpCall, lossCall}
+use Rattle.device.specs.Device.{sound, statusByte, moded, latched, settled, remembering, running, started, ended, latchAt, locked}
+use Rattle.device.specs.Time.{afterCycle, finished, lost, waited, timeNumber, waitCall, powerUpCall, lossCall, poweredUp, unlocked}
 use Rattle.chip.specs.Table.{rowOf, addressOf}
-use Rattle.chip.specs.Answers.{hostNumber, inProtected, asNeeded, chipNumber, decided, verdictOf}
+use Rattle.chip.specs.Answers.{hostNumber, inProtected, asNeeded, chipNumber, decided, verdictOf, protectedAny, protectedAt}
 use Rattle.chip.specs.Line.{byRow, heard, heardRow, driven, lined, drivingAt, firstOf, countOf}
-use Rattle.device.specs.Cycles.{noSlots, noCycle, pageCycle, sectorCycle, allCycle, settingsCycle, slotsSound, cycleSound, touched, cut}
+use Rattle.device.specs.Cycles.{noSlots, noCycle, pageCycle, eraseCycle, allCycle, settingsCycle, slotsSound, cycleSound, touched, cut, namedSound}
 use Rattle.chip.specs.Change.{cycleOf, missingOf, bpIn, turned}
 use Rattle.chip.specs.Outcome.{Outcome, outcomeOf, transacted, bare}
 use Rattle.chip.specs.Events.{sent}
@@ -117,7 +118,7 @@ pub record Calls : Type 0 where
 
 -- computed by the checker
 pub calls : Calls
-unfolding sees sent mapAt window sumAt memory-is.blank memory-is.filled memory-is.programmed memory-is.erased memory-is.cutPage memory-is.cutSector figuresOf protectedOf timeNumber waitCall powerUpCall lossCall afterCycle finished lost waited sound statusByte moded latched settled remembering running started ended latchAt rowOf addressOf hostNumber inProtected asNeeded chipNumber decided verdictOf byRow heard heardRow driven lined drivingAt firstOf countOf noSlots noCycle pageCycle sectorCycle allCycle settingsCycle slotsSound cycleSound cycleOf touched cut missingOf missing missingAt pageOf memory-is.reached memory-is.landed ones onesIn bpIn turned outcomeOf transacted
+unfolding sees sent mapAt window sumAt memory-is.blank memory-is.filled memory-is.programmed memory-is.erased memory-is.cutPage memory-is.cutSector figuresOf protectedOf timeNumber waitCall powerUpCall lossCall afterCycle finished lost waited sound statusByte moded latched settled remembering running started ended latchAt rowOf addressOf hostNumber inProtected asNeeded chipNumber decided verdictOf byRow heard heardRow driven lined drivingAt firstOf countOf noSlots noCycle pageCycle eraseCycle allCycle settingsCycle slotsSound cycleSound cycleOf touched cut missingOf missing missingAt pageOf memory-is.reached memory-is.landed ones onesIn bpIn turned outcomeOf transacted namedSound locksSound noLocks protectedAt protectedAny lockOf unlocked locked poweredUp
 calls = record {
   wren = refl;
   wrdi = refl;

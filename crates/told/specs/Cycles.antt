@@ -6,19 +6,20 @@ use Prim.Native.Nat.{ℕ}
 use lib.ListN.{replicate}
 use Rattle.memory.specs.Memory as memory-is
 use Rattle.parts.specs.Parts.{figuresOf}
+use Rattle.device.specs.Locks.{noLocks}
 use Rattle.device.specs.declared.Mode.the-variants.{Busy}
 use Rattle.device.specs.declared.Device.{Device}
 use Rattle.device.specs.declared.cycle.Kind.{Kind}
-use Rattle.device.specs.declared.cycle.Kind.the-variants.{Idle, Page, Sector, All, Settings}
+use Rattle.device.specs.declared.cycle.Kind.the-variants.{Idle, Page, Sector, All, Settings, PageWrite, PageErase, Subsector}
 use Rattle.device.specs.declared.cycle.Cycle.{Cycle}
 use Rattle.device.specs.Device.{delivered}
-use Rattle.device.specs.Cycles.{usesOf, noSlots, noCycle, pageCycle, sectorCycle, allCycle, settingsCycle, touched, cut, durationOf}
+use Rattle.device.specs.Cycles.{usesOf, noSlots, noCycle, pageCycle, writeCycle, eraseCycle, allCycle, settingsCycle, touched, cut, durationOf}
 
 -- ---- short forms, written out
 
--- a cycle by kind, address, slots, new BP and new SRWD
+-- a cycle by kind, address, slots, new BP and new SRWD, with no bytes named
 abbrev pub cycle : Kind → ℕ → List ℕ → ℕ → Bool → Cycle
-cycle k a s b w = record { kind = k; address = a; slots = s; bp = b; srwd = w }
+cycle k a s b w = record { kind = k; address = a; slots = s; bp = b; srwd = w; named = 0 }
 
 -- 256 times the same byte
 abbrev pub full : ℕ → List ℕ
@@ -48,9 +49,21 @@ erasing-all = cycle All 0 (full 0) 0 false
 abbrev pub writing : Bool → ℕ → Cycle
 writing w b = cycle Settings 0 (full 0) b w
 
+-- of a page write, by address, slots and how many bytes were named
+abbrev pub replacing : ℕ → List ℕ → ℕ → Cycle
+replacing at slots n = record { kind = PageWrite; address = at; slots = slots; bp = 0; srwd = false; named = n }
+
+-- of a page erase, by address
+abbrev pub erasing-page : ℕ → Cycle
+erasing-page at = cycle PageErase at (full 0) 0 false
+
+-- of a subsector erase, by address
+abbrev pub erasing-subsector : ℕ → Cycle
+erasing-subsector at = cycle Subsector at (full 0) 0 false
+
 -- a record in a cycle, by part, BP, SRWD, latch, ticks left and cycle; durations 3, 5, 9, 2
 abbrev pub busy-of : ℕ → ℕ → Bool → Bool → ℕ → Cycle → Device
-busy-of p b s l t c = record { part = p; bp = b; srwd = s; latch = l; mode = Busy t; program = 3; «sector_erase» = 5; «bulk_erase» = 9; «write_status» = 2; cycle = c }
+busy-of p b s l t c = record { part = p; bp = b; srwd = s; latch = l; mode = Busy t; program = 3; «sector_erase» = 5; «bulk_erase» = 9; «write_status» = 2; cycle = c; locks = noLocks }
 
 -- the same in a bulk erase
 abbrev pub mid-erase : ℕ → ℕ → Bool → Bool → ℕ → Device
@@ -58,38 +71,48 @@ mid-erase p b s l t = busy-of p b s l t erasing-all
 
 -- ---- the kinds
 
--- none, a program, a sector erase, a bulk erase, a settings write
+-- none, a program, a sector erase, a bulk erase, a settings write; a page write, a page erase, a subsector erase
 abbrev pub kinds : List Kind
-kinds = Idle ∷ Page ∷ Sector ∷ All ∷ Settings ∷ []
+kinds = Idle ∷ Page ∷ Sector ∷ All ∷ Settings ∷ PageWrite ∷ PageErase ∷ Subsector ∷ []
 
 -- what a kind uses, what is remembered of it, and its ticks
 pub record Kinds : Type 0 where
-  -- which are a cycle; a program and a sector erase use the address, a program the slots, a settings write the settings
-  pub cycles : map (λ (k : Kind). usesOf k .cycle) kinds ≡ false ∷ true ∷ true ∷ true ∷ true ∷ []
-  pub addresses : map (λ (k : Kind). usesOf k .address) kinds ≡ false ∷ true ∷ true ∷ false ∷ false ∷ []
-  pub slots : map (λ (k : Kind). usesOf k .slots) kinds ≡ false ∷ true ∷ false ∷ false ∷ false ∷ []
-  pub settings : map (λ (k : Kind). usesOf k .settings) kinds ≡ false ∷ false ∷ false ∷ false ∷ true ∷ []
+  -- which are a cycle; all but a bulk erase and a settings write use the address, a program and a page write the slots, a settings write the settings, a page write the number of bytes named; the last three are the M25PE40's
+  pub cycles : map (λ (k : Kind). usesOf k .cycle) kinds ≡ false ∷ true ∷ true ∷ true ∷ true ∷ true ∷ true ∷ true ∷ []
+  pub addresses : map (λ (k : Kind). usesOf k .address) kinds ≡ false ∷ true ∷ true ∷ false ∷ false ∷ true ∷ true ∷ true ∷ []
+  pub slots : map (λ (k : Kind). usesOf k .slots) kinds ≡ false ∷ true ∷ false ∷ false ∷ false ∷ true ∷ false ∷ false ∷ []
+  pub settings : map (λ (k : Kind). usesOf k .settings) kinds ≡ false ∷ false ∷ false ∷ false ∷ true ∷ false ∷ false ∷ false ∷ []
+  pub named : map (λ (k : Kind). usesOf k .named) kinds ≡ false ∷ false ∷ false ∷ false ∷ false ∷ true ∷ false ∷ false ∷ []
+  pub pe : map (λ (k : Kind). usesOf k .pe) kinds ≡ false ∷ false ∷ false ∷ false ∷ false ∷ true ∷ true ∷ true ∷ []
   -- what is not used is zero
   pub no-slots : noSlots ≡ replicate 256 0
   pub no-cycle : noCycle ≡ cycle Idle 0 (replicate 256 0) 0 false
   pub page-cycle : pageCycle 0x07FFFE (row 0x11 0x22 0xFF 0x33) ≡ cycle Page 0x07FFFE (row 0x11 0x22 0xFF 0x33) 0 false
-  pub sector-cycle : sectorCycle 0x07FFFE ≡ cycle Sector 0x07FFFE (replicate 256 0) 0 false
+  pub write-cycle : writeCycle 0x07FFFE (row 0x11 0x22 0xFF 0x33) 3 ≡ record { kind = PageWrite; address = 0x07FFFE; slots = row 0x11 0x22 0xFF 0x33; bp = 0; srwd = false; named = 3 }
+  pub page-erase-cycle : eraseCycle PageErase 0x07FFFE ≡ cycle PageErase 0x07FFFE (replicate 256 0) 0 false
+  pub subsector-cycle : eraseCycle Subsector 0x07FFFE ≡ cycle Subsector 0x07FFFE (replicate 256 0) 0 false
+  pub sector-cycle : eraseCycle Sector 0x07FFFE ≡ cycle Sector 0x07FFFE (replicate 256 0) 0 false
   pub all-cycle : allCycle ≡ cycle All 0 (replicate 256 0) 0 false
   pub settings-cycle : settingsCycle true 5 ∷ settingsCycle false 2 ∷ [] ≡ cycle Settings 0 (replicate 256 0) 5 true ∷ cycle Settings 0 (replicate 256 0) 2 false ∷ []
-  -- its ticks
-  pub durations : map (λ (k : Kind). durationOf k (delivered 2 0x010203 0x040506 0x07080D 0x0E0F10)) kinds ≡ 0 ∷ 0x010203 ∷ 0x040506 ∷ 0x07080D ∷ 0x0E0F10 ∷ []
+  -- its ticks: a page write and a page erase take the program duration, a subsector erase the sector erase one
+  pub durations : map (λ (k : Kind). durationOf k (delivered 2 0x010203 0x040506 0x07080D 0x0E0F10)) kinds ≡ 0 ∷ 0x010203 ∷ 0x040506 ∷ 0x07080D ∷ 0x0E0F10 ∷ 0x010203 ∷ 0x010203 ∷ 0x040506 ∷ []
 
 -- computed by the checker
 pub is-kinds : Kinds
-unfolding delivered noSlots noCycle pageCycle sectorCycle allCycle settingsCycle
+unfolding delivered noSlots noCycle pageCycle writeCycle eraseCycle allCycle settingsCycle noLocks
 is-kinds = record {
   cycles = refl;
   addresses = refl;
   slots = refl;
   settings = refl;
+  named = refl;
+  pe = refl;
   no-slots = refl;
   no-cycle = refl;
   page-cycle = refl;
+  write-cycle = refl;
+  page-erase-cycle = refl;
+  subsector-cycle = refl;
   sector-cycle = refl;
   all-cycle = refl;
   settings-cycle = refl;

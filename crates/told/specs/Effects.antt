@@ -8,16 +8,17 @@ use Rattle.slices.specs.Changed.{mapAt, window, sumAt}
 use Rattle.memory.specs.Memory as memory-is
 use Rattle.parts.specs.Parts.{figuresOf}
 use Rattle.parts.specs.Protected.{protectedOf}
+use Rattle.device.specs.Locks.{lockOf, locksSound, noLocks}
 use Rattle.device.specs.declared.Mode.{Mode}
 use Rattle.device.specs.declared.Mode.the-variants.{Standby, Busy, Deep}
 use Rattle.device.specs.declared.Device.{Device}
 use Rattle.device.specs.declared.cycle.Cycle.{Cycle}
 use Rattle.device.specs.Chip.{chip}
-use Rattle.device.specs.Cycles.{noSlots, noCycle, pageCycle, sectorCycle, allCycle, settingsCycle, slotsSound, cycleSound, touched}
+use Rattle.device.specs.Cycles.{noSlots, noCycle, pageCycle, eraseCycle, allCycle, settingsCycle, slotsSound, cycleSound, touched, namedSound}
 use Rattle.device.specs.Device.{sound, statusByte, moded, latched, settled, remembering, running, started, ended, latchAt}
 use Rattle.device.specs.Time.{afterCycle, finished, waited}
 use Rattle.chip.specs.Table.{rowOf, addressOf}
-use Rattle.chip.specs.Answers.{hostNumber, inProtected, asNeeded, chipNumber, decided, verdictOf}
+use Rattle.chip.specs.Answers.{hostNumber, inProtected, asNeeded, chipNumber, decided, verdictOf, protectedAny, protectedAt}
 use Rattle.chip.specs.Line.{byRow, heard, heardRow, driven, lined, drivingAt, firstOf, countOf}
 use Rattle.chip.specs.Change.{cycleOf, bpIn, turned}
 use Rattle.chip.specs.Outcome.{Outcome, outcomeOf}
@@ -54,7 +55,7 @@ sets-srwd s =
 
 -- an M25P32 whose cycles take one tick, by BP, SRWD, latch, mode and cycle
 abbrev pub brisk : ℕ → Bool → Bool → Mode → Cycle → Device
-brisk b s l m c = record { part = 3; bp = b; srwd = s; latch = l; mode = m; program = 1; «sector_erase» = 1; «bulk_erase» = 1; «write_status» = 1; cycle = c }
+brisk b s l m c = record { part = 3; bp = b; srwd = s; latch = l; mode = m; program = 1; «sector_erase» = 1; «bulk_erase» = 1; «write_status» = 1; cycle = c; locks = noLocks }
 
 -- an M25P32 in a program, BP 2, SRWD 1
 abbrev pub mid-program : Device
@@ -69,6 +70,7 @@ pub record Turns : Type 0 where
   pub sets-m25p32 : sets 3 ≡ replicate 2 (0 ∷ 1 ∷ 2 ∷ 3 ∷ 4 ∷ 5 ∷ 6 ∷ 7 ∷ 7 ∷ 0 ∷ [])
   pub sets-m25p128 : sets 4 ≡ replicate 2 (0 ∷ 1 ∷ 2 ∷ 3 ∷ 4 ∷ 5 ∷ 6 ∷ 7 ∷ 7 ∷ 0 ∷ [])
   pub sets-older : sets 5 ≡ replicate 2 (0 ∷ 1 ∷ 2 ∷ 3 ∷ 0 ∷ 1 ∷ 2 ∷ 3 ∷ 3 ∷ 0 ∷ [])
+  pub sets-m25pe40 : sets 6 ≡ replicate 2 (0 ∷ 1 ∷ 2 ∷ 3 ∷ 4 ∷ 5 ∷ 6 ∷ 7 ∷ 7 ∷ 0 ∷ [])
   -- bit 7
   pub sets-set : sets-srwd true ≡ replicate 2 (false ∷ false ∷ true ∷ true ∷ [])
   pub sets-reset : sets-srwd false ≡ replicate 2 (false ∷ false ∷ true ∷ true ∷ [])
@@ -119,7 +121,7 @@ pub record Turns : Type 0 where
 
 -- computed by the checker
 pub turns : Turns
-unfolding mapAt window sumAt memory-is.blank memory-is.filled figuresOf protectedOf sound statusByte moded latched settled remembering running started ended latchAt afterCycle finished waited rowOf addressOf hostNumber inProtected asNeeded chipNumber decided verdictOf byRow heard heardRow driven lined drivingAt firstOf countOf noSlots noCycle pageCycle sectorCycle allCycle settingsCycle slotsSound cycleSound cycleOf touched bpIn turned outcomeOf
+unfolding mapAt window sumAt memory-is.blank memory-is.filled figuresOf protectedOf sound statusByte moded latched settled remembering running started ended latchAt afterCycle finished waited rowOf addressOf hostNumber inProtected asNeeded chipNumber decided verdictOf byRow heard heardRow driven lined drivingAt firstOf countOf noSlots noCycle pageCycle eraseCycle allCycle settingsCycle slotsSound cycleSound cycleOf touched bpIn turned outcomeOf namedSound locksSound noLocks protectedAt protectedAny lockOf
 turns = record {
   sets-bench = refl;
   sets-m25p10a = refl;
@@ -127,6 +129,7 @@ turns = record {
   sets-m25p32 = refl;
   sets-m25p128 = refl;
   sets-older = refl;
+  sets-m25pe40 = refl;
   sets-set = refl;
   sets-reset = refl;
   wren = refl;

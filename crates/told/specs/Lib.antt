@@ -14,3 +14,10 @@ pub mod Protection
 pub mod Edges
 pub mod Calls
 pub mod CCalls
+pub mod Pe
+pub mod PePacking
+pub mod PeAnswers
+pub mod PeCycles
+pub mod Locks
+pub mod Locked
+pub mod PeCalls

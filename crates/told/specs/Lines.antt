@@ -5,6 +5,7 @@ use mathlib.Core.List.{List, [], _∷_, map}
 use Prim.Native.Nat.{ℕ}
 use lib.ListN.{take, replicate}
 use Rattle.parts.specs.Parts.{figuresOf}
+use Rattle.device.specs.Locks.{lockOf}
 use Rattle.device.specs.declared.Mode.the-variants.{Standby, Deep}
 use Rattle.device.specs.declared.Device.{Device}
 use Rattle.device.specs.Device.{statusByte}
@@ -50,21 +51,26 @@ pub record Lines : Type 0 where
   pub names-m25p32 : line (part 3 0) (sends 0x9F) ≡ names 0x20 0x20 0x16
   pub names-m25p128 : line (part 4 0) (sends 0x9F) ≡ names 0x20 0x20 0x18
   pub names-older : line (part 5 0) (sends 0x9F) ≡ mute
-  -- RES, which the M25P128 does not have
+  pub names-m25pe40 : line (part 6 0) (sends 0x9F) ≡ names 0x20 0x80 0x13
+  -- RES, which the M25P128 does not have; on the M25PE40 AB only releases
   pub signs-bench : line (part 0 0) (sends 0xAB) ≡ late 0x0B
   pub signs-m25p10a : line (part 1 0) (sends 0xAB) ≡ late 0x10
   pub signs-m25p40 : line (part 2 0) (sends 0xAB) ≡ late 0x12
   pub signs-m25p32 : line (part 3 0) (sends 0xAB) ≡ late 0x15
   pub signs-m25p128 : line (part 4 0) (sends 0xAB) ≡ mute
   pub signs-older : line (part 5 0) (sends 0xAB) ≡ late 0x10
+  pub signs-m25pe40 : line (part 6 0) (sends 0xAB) ∷ line (record-of 6 0 false true Deep) (sends 0xAB) ∷ [] ≡ mute ∷ mute ∷ []
   -- RDSR, with the highest BP
   pub status-bench : line (part 0 3) (sends 0x05) ≡ always 0x0E
   pub status-m25p32 : line (part 3 7) (sends 0x05) ≡ always 0x1E
+  pub status-m25pe40 : line (part 6 7) (sends 0x05) ≡ always 0x1E
   -- READ from byte 4, FAST_READ from byte 5, from address 2 on, over the last byte to byte 0
   pub reads : line usual (sends 0x03) ≡ silent ∷ silent ∷ silent ∷ silent ∷ drives 0xA2 ∷ drives 0xA3 ∷ drives 0xA0 ∷ []
   pub reads-fast : line usual (sends 0x0B) ≡ silent ∷ silent ∷ silent ∷ silent ∷ silent ∷ drives 0xA2 ∷ drives 0xA3 ∷ []
-  -- the other seven, and a code that is none
+  pub reads-m25pe40 : line (part 6 0) (sends 0x03) ∷ line (part 6 0) (sends 0x0B) ∷ [] ≡ (silent ∷ silent ∷ silent ∷ silent ∷ drives 0xA2 ∷ drives 0xA3 ∷ drives 0xA0 ∷ []) ∷ (silent ∷ silent ∷ silent ∷ silent ∷ silent ∷ drives 0xA2 ∷ drives 0xA3 ∷ []) ∷ []
+  -- the others, and a code that is none
   pub others : map (λ (code : ℕ). line usual (sends code)) (0x06 ∷ 0x04 ∷ 0x01 ∷ 0x02 ∷ 0xD8 ∷ 0xC7 ∷ 0xB9 ∷ 0x9E ∷ []) ≡ replicate 8 mute
+  pub others-m25pe40 : map (λ (code : ℕ). line (part 6 0) (sends code)) (0x06 ∷ 0x04 ∷ 0x01 ∷ 0xE5 ∷ 0x0A ∷ 0x02 ∷ 0xDB ∷ 0x20 ∷ 0xD8 ∷ 0xC7 ∷ 0xB9 ∷ 0xAB ∷ 0x9E ∷ []) ≡ replicate 13 mute
   -- busy: RDSR alone is heard
   pub busy : line (mid-erase 0 0 false true 2) (sends 0x05) ≡ always 0x03
   pub busy-last : line (mid-erase 0 0 false false 1) (sends 0x05) ≡ always 0x01
@@ -79,7 +85,7 @@ pub record Lines : Type 0 where
 
 -- computed by the checker
 pub lines : Lines
-unfolding figuresOf statusByte rowOf addressOf byRow heard heardRow driven
+unfolding figuresOf statusByte rowOf addressOf byRow heard heardRow driven lockOf
 lines = record {
   names-bench = refl;
   names-m25p10a = refl;
@@ -87,17 +93,22 @@ lines = record {
   names-m25p32 = refl;
   names-m25p128 = refl;
   names-older = refl;
+  names-m25pe40 = refl;
   signs-bench = refl;
   signs-m25p10a = refl;
   signs-m25p40 = refl;
   signs-m25p32 = refl;
   signs-m25p128 = refl;
   signs-older = refl;
+  signs-m25pe40 = refl;
   status-bench = refl;
   status-m25p32 = refl;
+  status-m25pe40 = refl;
   reads = refl;
   reads-fast = refl;
+  reads-m25pe40 = refl;
   others = refl;
+  others-m25pe40 = refl;
   busy = refl;
   busy-last = refl;
   busy-others = refl;

@@ -10,14 +10,15 @@ use Rattle.memory.specs.Memory as memory-is
 use Rattle.memory.specs.Missing.{unmet, missingAt, missing, pageOf}
 use Rattle.parts.specs.Parts.{figuresOf}
 use Rattle.parts.specs.Protected.{protectedOf}
-use Rattle.device.specs.declared.cycle.Kind.the-variants.{Idle, Settings, Page, Sector, All}
-use Rattle.device.specs.Cycles.{noSlots, noCycle, pageCycle, sectorCycle, allCycle, settingsCycle, slotsSound, cycleSound, touched, cut}
-use Rattle.device.specs.Device.{sound, statusByte, moded, latched, settled, remembering, running, started, ended, latchAt}
-use Rattle.device.specs.Time.{afterCycle, finished, lost, waited, timeNumber, waitCall, powerUpCall, lossCall}
+use Rattle.device.specs.Locks.{lockOf, locksSound, noLocks}
+use Rattle.device.specs.declared.cycle.Kind.the-variants.{Idle, Settings, Page, Sector, All, PageWrite, PageErase, Subsector}
+use Rattle.device.specs.Cycles.{noSlots, noCycle, pageCycle, eraseCycle, allCycle, settingsCycle, slotsSound, cycleSound, touched, cut, namedSound}
+use Rattle.device.specs.Device.{sound, statusByte, moded, latched, settled, remembering, running, started, ended, latchAt, locked}
+use Rattle.device.specs.Time.{afterCycle, finished, lost, waited, timeNumber, waitCall, powerUpCall, lossCall, poweredUp, unlocked}
 use Rattle.chip.specs.declared.table.Turn.{Turn}
-use Rattle.chip.specs.declared.table.Turn.the-variants.{Keep, Enable, Disable, Start, Sleep, Wake}
+use Rattle.chip.specs.declared.table.Turn.the-variants.{Keep, Enable, Disable, Start, Sleep, Wake, Lock}
 use Rattle.chip.specs.Table.{rowOf, addressOf}
-use Rattle.chip.specs.Answers.{hostNumber, inProtected, asNeeded, chipNumber, decided, verdictOf}
+use Rattle.chip.specs.Answers.{hostNumber, inProtected, asNeeded, chipNumber, decided, verdictOf, protectedAny, protectedAt}
 use Rattle.chip.specs.Line.{byRow, heard, heardRow, driven, lined, drivingAt, firstOf, countOf}
 use Rattle.chip.specs.Change.{cycleOf, missingOf, bpIn, turned}
 use Rattle.chip.specs.Outcome.{outcomeOf, transacted}
@@ -63,7 +64,7 @@ pub record Missing : Type 0 where
   pub pages : map (λ (at : ℕ). pageOf at three-pages) (0x000 ∷ 0x0FF ∷ 0x100 ∷ 0x1FF ∷ 0x200 ∷ 0x2FF ∷ 0x300 ∷ []) ≡ replicate 256 0x11 ∷ replicate 256 0x11 ∷ replicate 256 0x22 ∷ replicate 256 0x22 ∷ (0x33 ∷ 0x33 ∷ []) ∷ (0x33 ∷ 0x33 ∷ []) ∷ [] ∷ []
   -- a program alone: FF over 22 and 0F over 22 want six bits and three
   pub program : by-turn (Start Page) ≡ 9
-  pub others : map by-turn (Keep ∷ Enable ∷ Disable ∷ Start Settings ∷ Start Sector ∷ Start All ∷ Start Idle ∷ Sleep ∷ Wake ∷ []) ≡ replicate 9 0
+  pub others : map by-turn (Keep ∷ Enable ∷ Disable ∷ Start Settings ∷ Start Sector ∷ Start All ∷ Start Idle ∷ Start PageWrite ∷ Start PageErase ∷ Start Subsector ∷ Sleep ∷ Wake ∷ Lock ∷ []) ≡ replicate 13 0
   -- whole calls: bits missing, none in the cycle nor where the program is ignored (15, 16, 17), none of any other instruction, none after an erase
   pub calls : sees
       (answers (0x02 ∷ 0x00 ∷ 0x0C ∷ 0x10 ∷ 0x00 ∷ 0x0F ∷ []) 0 ∷ answers (0x02 ∷ 0x00 ∷ 0x0C ∷ 0x10 ∷ 0xFF ∷ []) 12 ∷ worked.waits 3
@@ -86,7 +87,7 @@ pub record Missing : Type 0 where
 
 -- computed by the checker
 pub is-missing : Missing
-unfolding sees sent mapAt window sumAt memory-is.blank memory-is.filled memory-is.programmed memory-is.erased memory-is.cutPage memory-is.cutSector memory-is.reached memory-is.landed ones onesIn missingAt missing pageOf figuresOf protectedOf timeNumber waitCall powerUpCall lossCall afterCycle finished lost waited sound statusByte moded latched settled remembering running started ended latchAt rowOf addressOf hostNumber inProtected asNeeded chipNumber decided verdictOf byRow heard heardRow driven lined drivingAt firstOf countOf noSlots noCycle pageCycle sectorCycle allCycle settingsCycle slotsSound cycleSound cycleOf touched cut missingOf bpIn turned outcomeOf transacted
+unfolding sees sent mapAt window sumAt memory-is.blank memory-is.filled memory-is.programmed memory-is.erased memory-is.cutPage memory-is.cutSector memory-is.reached memory-is.landed ones onesIn missingAt missing pageOf figuresOf protectedOf timeNumber waitCall powerUpCall lossCall afterCycle finished lost waited sound statusByte moded latched settled remembering running started ended latchAt rowOf addressOf hostNumber inProtected asNeeded chipNumber decided verdictOf byRow heard heardRow driven lined drivingAt firstOf countOf noSlots noCycle pageCycle eraseCycle allCycle settingsCycle slotsSound cycleSound cycleOf touched cut missingOf bpIn turned outcomeOf transacted namedSound locksSound noLocks protectedAt protectedAny lockOf unlocked locked poweredUp
 is-missing = record {
   ones-of = refl;
   ones-under = refl;

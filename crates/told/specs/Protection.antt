@@ -8,16 +8,18 @@ use lib.Dec.{lit<}
 use lib.ListN.{length, getD, replicate, length-replicate}
 use Rattle.parts.specs.Parts.{figuresOf}
 use Rattle.parts.specs.Protected.{protectedOf}
+use Rattle.device.specs.Locks.{lockOf, locksSound, noLocks}
 use Rattle.device.specs.declared.Mode.{Mode}
 use Rattle.device.specs.declared.Mode.the-variants.{Standby, Deep}
 use Rattle.device.specs.declared.cycle.Cycle.{Cycle}
-use Rattle.device.specs.Cycles.{noSlots, noCycle, slotsSound, cycleSound}
+use Rattle.device.specs.Cycles.{noSlots, noCycle, slotsSound, cycleSound, namedSound}
 use Rattle.device.specs.Device.{sound, latchAt}
-use Rattle.chip.specs.Answers.{inProtected}
+use Rattle.chip.specs.Answers.{inProtected, protectedAny, protectedAt}
 use Rattle.chip.specs.Events.{Chip, Good, sends, waits, starts, loses, every}
 use Rattle.chip.specs.Protection.{Armed, wLow, isProtected, Kept}
 use Rattle.chip.specs.Worked.{record-of}
-use Rattle.told.specs.Cycles.{full, erasing-sector, erasing-all, writing, busy-of}
+use Rattle.told.specs.Cycles.{full, none, erasing-sector, erasing-all, writing, busy-of}
+use Rattle.told.specs.Pe.{held}
 use Rattle.told.specs.Lines.{part}
 use Rattle.told.specs.Places.{four}
 
@@ -56,6 +58,9 @@ pub record Protection : Type 0 where
   -- where the protected bytes begin, on the smallest and the largest part, for BP 1 and up, until all are protected
   pub bench : begins 0 1 (3072 ∷ 2048 ∷ []) ≡ replicate 2 (false ∷ true ∷ [])
   pub m25p128 : begins 4 1 (16515072 ∷ 16252928 ∷ 15728640 ∷ 14680064 ∷ 12582912 ∷ 8388608 ∷ []) ≡ replicate 6 (false ∷ true ∷ [])
+  -- on the M25PE40, where lock registers do not count here
+  pub m25pe40 : begins 6 1 (458752 ∷ 393216 ∷ 262144 ∷ []) ≡ replicate 3 (false ∷ true ∷ [])
+  pub locks : isProtected (held 6 0 true true Standby none (replicate 8 3)) 0 ≡ false
   -- the last byte, for BP 0 to 3
   pub lasts : under 0 four 4095 ∷ under 1 four 131071 ∷ under 5 four 131071 ∷ [] ≡ replicate 3 (false ∷ true ∷ true ∷ true ∷ [])
   -- from where: with either latch; not from a cycle, deep power-down, SRWD 0, a BP above the part's, an array with a byte too few
@@ -80,14 +85,14 @@ pub record Protection : Type 0 where
 
 -- neither of two bytes is protected with BP 1
 free : (i : ℕ) {x : ℕ} → i < 2 → isProtected (record-of 0 1 true true Standby) i ≡ true → getD (0x00 ∷ 0xFF ∷ []) i 0 ≡ x
-unfolding figuresOf protectedOf inProtected
+unfolding figuresOf protectedOf inProtected protectedAt protectedAny lockOf
 free zero lt p = absurd (false≢true p)
 free (suc zero) lt p = absurd (false≢true p)
 free (suc (suc i)) lt p = absurd (omega arith)
 
 -- computed by the checker
 pub protects : Protection
-unfolding figuresOf protectedOf inProtected sound latchAt noSlots noCycle slotsSound cycleSound
+unfolding figuresOf protectedOf inProtected sound latchAt noSlots noCycle slotsSound cycleSound namedSound locksSound noLocks protectedAt protectedAny lockOf
 protects = record {
   low = refl;
   high = refl;
@@ -95,6 +100,8 @@ protects = record {
   one-high = refl;
   bench = refl;
   m25p128 = refl;
+  m25pe40 = refl;
+  locks = refl;
   lasts = refl;
   armed = λ l. record { good = record { sound = refl; whole = length-replicate {A = ℕ} 4096 0xFF }; standby = refl; srwd = refl };
   busy = λ f. let z : _≡_ {A = ℕ} 0 1 = cc (f .standby) in omega arith;

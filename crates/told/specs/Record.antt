@@ -5,20 +5,21 @@ use mathlib.Core.List.{List, [], _∷_, _++_, map}
 use Prim.Native.Nat.{ℕ}
 use lib.ListN.{set, replicate}
 use Rattle.parts.specs.Parts.{figuresOf}
+use Rattle.device.specs.Locks.{locksSound, noLocks}
 use Rattle.device.specs.declared.Mode.{Mode}
 use Rattle.device.specs.declared.Mode.the-variants.{Standby, Busy, Deep}
 use Rattle.device.specs.declared.Device.{Device}
 use Rattle.device.specs.declared.cycle.Kind.{Kind}
 use Rattle.device.specs.declared.cycle.Kind.the-variants.{Idle, Page, Sector, All, Settings}
 use Rattle.device.specs.declared.cycle.Cycle.{Cycle}
-use Rattle.device.specs.Cycles.{noSlots, noCycle, slotsSound, cycleSound}
+use Rattle.device.specs.Cycles.{noSlots, noCycle, slotsSound, cycleSound, namedSound}
 use Rattle.device.specs.Device.{latchAt, moded, latched, settled, remembering, running, started, ended, zeroRecord, delivered, sound, statusByte}
 use Rattle.device.specs.Packing.{packAnswer}
 use Rattle.told.specs.Cycles.{cycle, full, row, none, programming, erasing-sector, erasing-all, writing}
 
 -- a record by part, BP, SRWD, latch, mode and cycle; each duration has three bytes of its own
 abbrev pub with-cycle : ℕ → ℕ → Bool → Bool → Mode → Cycle → Device
-with-cycle p b s l m c = record { part = p; bp = b; srwd = s; latch = l; mode = m; program = 0x010203; «sector_erase» = 0x040506; «bulk_erase» = 0x07080D; «write_status» = 0x0E0F10; cycle = c }
+with-cycle p b s l m c = record { part = p; bp = b; srwd = s; latch = l; mode = m; program = 0x010203; «sector_erase» = 0x040506; «bulk_erase» = 0x07080D; «write_status» = 0x0E0F10; cycle = c; locks = noLocks }
 
 -- the same without a cycle
 abbrev pub of : ℕ → ℕ → Bool → Bool → Mode → Device
@@ -38,7 +39,7 @@ still = of 4 7 false true Standby
 
 -- the all-zero record
 abbrev pub zeros : Device
-zeros = record { part = 0; bp = 0; srwd = false; latch = false; mode = Standby; program = 0; «sector_erase» = 0; «bulk_erase» = 0; «write_status» = 0; cycle = none }
+zeros = record { part = 0; bp = 0; srwd = false; latch = false; mode = Standby; program = 0; «sector_erase» = 0; «bulk_erase» = 0; «write_status» = 0; cycle = none; locks = noLocks }
 
 -- ---- what the record becomes
 
@@ -71,7 +72,7 @@ pub record Changes : Type 0 where
 
 -- computed by the checker
 pub changes : Changes
-unfolding delivered zeroRecord latchAt latched settled moded remembering running started ended noSlots noCycle
+unfolding delivered zeroRecord latchAt latched settled moded remembering running started ended noSlots noCycle noLocks
 changes = record {
   delivery = refl;
   zero = refl;
@@ -98,7 +99,7 @@ changes = record {
 
 -- what pack answers where there is room: 0 for a sound record, else 6
 abbrev pub asks : Device → ℕ
-asks d = packAnswer d 292
+asks d = packAnswer d 304
 
 -- the last number below the range of a duration, its first, its last, and the one above
 abbrev pub borders : List ℕ
@@ -108,9 +109,9 @@ borders = 0 ∷ 1 ∷ 1000000 ∷ 1000001 ∷ []
 abbrev pub withBP : ℕ → List ℕ
 withBP p = map (λ (b : ℕ). asks (of p b false false Standby)) (0 ∷ 1 ∷ 2 ∷ 3 ∷ 4 ∷ 5 ∷ 6 ∷ 7 ∷ 8 ∷ [])
 
--- the answers for parts 0 to 6, and 255, in a mode, with a cycle
+-- the answers for parts 0 to 7, and 255, in a mode, with a cycle
 abbrev pub withPart : Bool → Mode → Cycle → List ℕ
-withPart l m c = map (λ (p : ℕ). asks (with-cycle p 0 false l m c)) (0 ∷ 1 ∷ 2 ∷ 3 ∷ 4 ∷ 5 ∷ 6 ∷ 255 ∷ [])
+withPart l m c = map (λ (p : ℕ). asks (with-cycle p 0 false l m c)) (0 ∷ 1 ∷ 2 ∷ 3 ∷ 4 ∷ 5 ∷ 6 ∷ 7 ∷ 255 ∷ [])
 
 -- the answers for ticks left of a bulk erase
 abbrev pub withTicks : Bool → List ℕ
@@ -125,22 +126,23 @@ pub record Soundness : Type 0 where
   pub write-status : map (λ (x : ℕ). asks (delivered 0 3 5 9 x)) borders ≡ 6 ∷ 0 ∷ 0 ∷ 6 ∷ []
   pub ticks-latch : withTicks true ≡ 6 ∷ 6 ∷ 0 ∷ 0 ∷ 6 ∷ []
   pub ticks-reset : withTicks false ≡ 6 ∷ 0 ∷ 6 ∷ 6 ∷ 6 ∷ []
-  -- the highest BP is 3, 3, 7, 7, 7, 3
+  -- the highest BP is 3, 3, 7, 7, 7, 3, 7
   pub bp-bench : withBP 0 ≡ 0 ∷ 0 ∷ 0 ∷ 0 ∷ 6 ∷ 6 ∷ 6 ∷ 6 ∷ 6 ∷ []
   pub bp-m25p10a : withBP 1 ≡ 0 ∷ 0 ∷ 0 ∷ 0 ∷ 6 ∷ 6 ∷ 6 ∷ 6 ∷ 6 ∷ []
   pub bp-m25p40 : withBP 2 ≡ 0 ∷ 0 ∷ 0 ∷ 0 ∷ 0 ∷ 0 ∷ 0 ∷ 0 ∷ 6 ∷ []
   pub bp-m25p32 : withBP 3 ≡ 0 ∷ 0 ∷ 0 ∷ 0 ∷ 0 ∷ 0 ∷ 0 ∷ 0 ∷ 6 ∷ []
   pub bp-m25p128 : withBP 4 ≡ 0 ∷ 0 ∷ 0 ∷ 0 ∷ 0 ∷ 0 ∷ 0 ∷ 0 ∷ 6 ∷ []
   pub bp-older : withBP 5 ≡ 0 ∷ 0 ∷ 0 ∷ 0 ∷ 6 ∷ 6 ∷ 6 ∷ 6 ∷ 6 ∷ []
-  -- the part is 0 to 5, a busy record has its latch set but for the last tick, and the M25P128 is not in deep power-down
-  pub standby : withPart false Standby none ≡ 0 ∷ 0 ∷ 0 ∷ 0 ∷ 0 ∷ 0 ∷ 6 ∷ 6 ∷ []
-  pub standby-latch : withPart true Standby none ≡ 0 ∷ 0 ∷ 0 ∷ 0 ∷ 0 ∷ 0 ∷ 6 ∷ 6 ∷ []
-  pub busy-latch : withPart true (Busy 2) erasing-all ≡ 0 ∷ 0 ∷ 0 ∷ 0 ∷ 0 ∷ 0 ∷ 6 ∷ 6 ∷ []
-  pub busy-reset : withPart false (Busy 2) erasing-all ≡ 6 ∷ 6 ∷ 6 ∷ 6 ∷ 6 ∷ 6 ∷ 6 ∷ 6 ∷ []
-  pub last-latch : withPart true (Busy 1) erasing-all ≡ 6 ∷ 6 ∷ 6 ∷ 6 ∷ 6 ∷ 6 ∷ 6 ∷ 6 ∷ []
-  pub last-reset : withPart false (Busy 1) erasing-all ≡ 0 ∷ 0 ∷ 0 ∷ 0 ∷ 0 ∷ 0 ∷ 6 ∷ 6 ∷ []
-  pub deep-latch : withPart true Deep none ≡ 0 ∷ 0 ∷ 0 ∷ 0 ∷ 6 ∷ 0 ∷ 6 ∷ 6 ∷ []
-  pub deep-reset : withPart false Deep none ≡ 0 ∷ 0 ∷ 0 ∷ 0 ∷ 6 ∷ 0 ∷ 6 ∷ 6 ∷ []
+  pub bp-m25pe40 : withBP 6 ≡ 0 ∷ 0 ∷ 0 ∷ 0 ∷ 0 ∷ 0 ∷ 0 ∷ 0 ∷ 6 ∷ []
+  -- the part is 0 to 6, a busy record has its latch set but for the last tick, and the M25P128 is not in deep power-down
+  pub standby : withPart false Standby none ≡ 0 ∷ 0 ∷ 0 ∷ 0 ∷ 0 ∷ 0 ∷ 0 ∷ 6 ∷ 6 ∷ []
+  pub standby-latch : withPart true Standby none ≡ 0 ∷ 0 ∷ 0 ∷ 0 ∷ 0 ∷ 0 ∷ 0 ∷ 6 ∷ 6 ∷ []
+  pub busy-latch : withPart true (Busy 2) erasing-all ≡ 0 ∷ 0 ∷ 0 ∷ 0 ∷ 0 ∷ 0 ∷ 0 ∷ 6 ∷ 6 ∷ []
+  pub busy-reset : withPart false (Busy 2) erasing-all ≡ 6 ∷ 6 ∷ 6 ∷ 6 ∷ 6 ∷ 6 ∷ 6 ∷ 6 ∷ 6 ∷ []
+  pub last-latch : withPart true (Busy 1) erasing-all ≡ 6 ∷ 6 ∷ 6 ∷ 6 ∷ 6 ∷ 6 ∷ 6 ∷ 6 ∷ 6 ∷ []
+  pub last-reset : withPart false (Busy 1) erasing-all ≡ 0 ∷ 0 ∷ 0 ∷ 0 ∷ 0 ∷ 0 ∷ 0 ∷ 6 ∷ 6 ∷ []
+  pub deep-latch : withPart true Deep none ≡ 0 ∷ 0 ∷ 0 ∷ 0 ∷ 6 ∷ 0 ∷ 0 ∷ 6 ∷ 6 ∷ []
+  pub deep-reset : withPart false Deep none ≡ 0 ∷ 0 ∷ 0 ∷ 0 ∷ 6 ∷ 0 ∷ 0 ∷ 6 ∷ 6 ∷ []
   pub all-zero : asks zeroRecord ≡ 6
   -- 'Status byte': bit 7 SRWD, bits 4 to 2 BP, bit 1 the latch, bit 0 set while busy
   pub bits-bp : map (λ (b : ℕ). statusByte (of 3 b false false Standby)) (0 ∷ 1 ∷ 2 ∷ 3 ∷ 4 ∷ 5 ∷ 6 ∷ 7 ∷ []) ≡ 0x00 ∷ 0x04 ∷ 0x08 ∷ 0x0C ∷ 0x10 ∷ 0x14 ∷ 0x18 ∷ 0x1C ∷ []
@@ -155,7 +157,7 @@ pub record Soundness : Type 0 where
 
 -- computed by the checker
 pub soundness : Soundness
-unfolding delivered zeroRecord latchAt sound noSlots noCycle slotsSound cycleSound packAnswer statusByte figuresOf
+unfolding delivered zeroRecord latchAt sound noSlots noCycle slotsSound cycleSound packAnswer statusByte figuresOf namedSound locksSound noLocks
 soundness = record {
   program = refl;
   sector-erase = refl;
@@ -169,6 +171,7 @@ soundness = record {
   bp-m25p32 = refl;
   bp-m25p128 = refl;
   bp-older = refl;
+  bp-m25pe40 = refl;
   standby = refl;
   standby-latch = refl;
   busy-latch = refl;
@@ -224,8 +227,8 @@ pub record Remembered : Type 0 where
   pub slot-less : with-fields 0 (replicate 255 0) 0 false ≡ 6 ∷ 6 ∷ 6 ∷ 6 ∷ 6 ∷ 6 ∷ []
   pub slot-more : with-fields 0 (replicate 257 0) 0 false ≡ 6 ∷ 6 ∷ 6 ∷ 6 ∷ 6 ∷ 6 ∷ []
   -- the address is below the part's size: the last one of each part, and the next
-  pub last-address : among 0 (Busy 2) (erasing-sector 4095) ∷ among 1 (Busy 2) (erasing-sector 131071) ∷ among 2 (Busy 2) (erasing-sector 524287) ∷ among 3 (Busy 2) (erasing-sector 4194303) ∷ among 4 (Busy 2) (erasing-sector 16777215) ∷ among 5 (Busy 2) (erasing-sector 131071) ∷ [] ≡ replicate 6 0
-  pub beyond : among 0 (Busy 2) (erasing-sector 4096) ∷ among 1 (Busy 2) (erasing-sector 131072) ∷ among 2 (Busy 2) (erasing-sector 524288) ∷ among 3 (Busy 2) (erasing-sector 4194304) ∷ among 4 (Busy 2) (erasing-sector 16777216) ∷ among 5 (Busy 2) (erasing-sector 131072) ∷ [] ≡ replicate 6 6
+  pub last-address : among 0 (Busy 2) (erasing-sector 4095) ∷ among 1 (Busy 2) (erasing-sector 131071) ∷ among 2 (Busy 2) (erasing-sector 524287) ∷ among 3 (Busy 2) (erasing-sector 4194303) ∷ among 4 (Busy 2) (erasing-sector 16777215) ∷ among 5 (Busy 2) (erasing-sector 131071) ∷ among 6 (Busy 2) (erasing-sector 524287) ∷ [] ≡ replicate 7 0
+  pub beyond : among 0 (Busy 2) (erasing-sector 4096) ∷ among 1 (Busy 2) (erasing-sector 131072) ∷ among 2 (Busy 2) (erasing-sector 524288) ∷ among 3 (Busy 2) (erasing-sector 4194304) ∷ among 4 (Busy 2) (erasing-sector 16777216) ∷ among 5 (Busy 2) (erasing-sector 131072) ∷ among 6 (Busy 2) (erasing-sector 524288) ∷ [] ≡ replicate 7 6
   pub page-address : map (λ (a : ℕ). among 0 (Busy 2) (programming a (full 0x5A))) (0 ∷ 4095 ∷ 4096 ∷ 4294967295 ∷ []) ≡ 0 ∷ 0 ∷ 6 ∷ 6 ∷ []
   -- the new BP is at most the part's highest
   pub new-bench : withNewBP 0 ≡ 0 ∷ 0 ∷ 0 ∷ 0 ∷ 6 ∷ 6 ∷ 6 ∷ 6 ∷ 6 ∷ []
@@ -234,13 +237,14 @@ pub record Remembered : Type 0 where
   pub new-m25p32 : withNewBP 3 ≡ 0 ∷ 0 ∷ 0 ∷ 0 ∷ 0 ∷ 0 ∷ 0 ∷ 0 ∷ 6 ∷ []
   pub new-m25p128 : withNewBP 4 ≡ 0 ∷ 0 ∷ 0 ∷ 0 ∷ 0 ∷ 0 ∷ 0 ∷ 0 ∷ 6 ∷ []
   pub new-older : withNewBP 5 ≡ 0 ∷ 0 ∷ 0 ∷ 0 ∷ 6 ∷ 6 ∷ 6 ∷ 6 ∷ 6 ∷ []
+  pub new-m25pe40 : withNewBP 6 ≡ 0 ∷ 0 ∷ 0 ∷ 0 ∷ 0 ∷ 0 ∷ 0 ∷ 0 ∷ 6 ∷ []
   -- nothing else is asked: more ticks left than any duration; a cycle where all is protected, and a settings write with SRWD set
   pub long : map (among 0 (Busy 1000000)) one-each ≡ 6 ∷ 0 ∷ 0 ∷ 0 ∷ 0 ∷ []
   pub protected : map (λ (c : Cycle). asks (with-cycle 0 3 true true (Busy 2) c)) one-each ≡ 6 ∷ 0 ∷ 0 ∷ 0 ∷ 0 ∷ []
 
 -- computed by the checker
 pub remembered : Remembered
-unfolding latchAt sound noSlots noCycle slotsSound cycleSound packAnswer figuresOf
+unfolding latchAt sound noSlots noCycle slotsSound cycleSound packAnswer figuresOf namedSound locksSound noLocks
 remembered = record {
   busy-kinds = refl;
   standby-kinds = refl;
@@ -262,6 +266,7 @@ remembered = record {
   new-m25p32 = refl;
   new-m25p128 = refl;
   new-older = refl;
+  new-m25pe40 = refl;
   long = refl;
   protected = refl;
 }

@@ -7,12 +7,13 @@ use lib.ListN.{replicate}
 use Rattle.slices.specs.Changed.{mapAt}
 use Rattle.memory.specs.Memory as memory-is
 use Rattle.parts.specs.Parts.{figuresOf}
+use Rattle.device.specs.Locks.{locksSound, noLocks}
 use Rattle.device.specs.declared.Mode.the-variants.{Standby, Deep}
 use Rattle.device.specs.declared.cycle.Cycle.{Cycle}
 use Rattle.device.specs.Chip.{Chip, chip}
-use Rattle.device.specs.Cycles.{noSlots, noCycle, slotsSound, cycleSound, touched, cut}
-use Rattle.device.specs.Device.{latchAt, moded, settled, remembering, running, ended, sound}
-use Rattle.device.specs.Time.{Timed, afterCycle, finished, lost, waited, timeNumber, maskNumber, waitCall, powerUpCall, lossCall}
+use Rattle.device.specs.Cycles.{noSlots, noCycle, slotsSound, cycleSound, touched, cut, namedSound}
+use Rattle.device.specs.Device.{latchAt, moded, settled, remembering, running, ended, sound, locked}
+use Rattle.device.specs.Time.{Timed, afterCycle, finished, lost, waited, timeNumber, maskNumber, waitCall, powerUpCall, lossCall, poweredUp, unlocked}
 use Rattle.chip.specs.Worked.{record-of, bench, usual}
 use Rattle.told.specs.Cycles.{full, row, none, programming, erasing-sector, erasing-all, writing, busy-of, some-slots, some-mask}
 use Rattle.told.specs.Times.{begun, on-last, rests, write}
@@ -74,7 +75,7 @@ pub record Whole : Type 0 where
 
 -- computed by the checker
 pub whole : Whole
-unfolding mapAt memory-is.programmed memory-is.erased memory-is.cutPage memory-is.cutSector figuresOf sound latchAt moded settled remembering running ended noSlots noCycle slotsSound cycleSound touched cut afterCycle finished lost waited timeNumber waitCall powerUpCall lossCall
+unfolding mapAt memory-is.programmed memory-is.erased memory-is.cutPage memory-is.cutSector figuresOf sound latchAt moded settled remembering running ended noSlots noCycle slotsSound cycleSound touched cut afterCycle finished lost waited timeNumber waitCall powerUpCall lossCall namedSound locksSound noLocks unlocked locked poweredUp
 whole = record {
   none = refl;
   short = refl;
@@ -105,12 +106,13 @@ timed-on p arrays = map (λ (a : ℕ). timeNumber (record-of p 0 false false Sta
 -- which number, by lengths
 pub record Numbers : Type 0 where
   -- 2: every array's length but the part's own
-  pub two-bench : timed-on 0 sizes ≡ 0 ∷ 2 ∷ 2 ∷ 2 ∷ 2 ∷ 2 ∷ []
-  pub two-m25p10a : timed-on 1 sizes ≡ 2 ∷ 0 ∷ 2 ∷ 2 ∷ 2 ∷ 0 ∷ []
-  pub two-m25p40 : timed-on 2 sizes ≡ 2 ∷ 2 ∷ 0 ∷ 2 ∷ 2 ∷ 2 ∷ []
-  pub two-m25p32 : timed-on 3 sizes ≡ 2 ∷ 2 ∷ 2 ∷ 0 ∷ 2 ∷ 2 ∷ []
-  pub two-m25p128 : timed-on 4 sizes ≡ 2 ∷ 2 ∷ 2 ∷ 2 ∷ 0 ∷ 2 ∷ []
-  pub two-older : timed-on 5 sizes ≡ 2 ∷ 0 ∷ 2 ∷ 2 ∷ 2 ∷ 0 ∷ []
+  pub two-bench : timed-on 0 sizes ≡ 0 ∷ 2 ∷ 2 ∷ 2 ∷ 2 ∷ 2 ∷ 2 ∷ []
+  pub two-m25p10a : timed-on 1 sizes ≡ 2 ∷ 0 ∷ 2 ∷ 2 ∷ 2 ∷ 0 ∷ 2 ∷ []
+  pub two-m25p40 : timed-on 2 sizes ≡ 2 ∷ 2 ∷ 0 ∷ 2 ∷ 2 ∷ 2 ∷ 0 ∷ []
+  pub two-m25p32 : timed-on 3 sizes ≡ 2 ∷ 2 ∷ 2 ∷ 0 ∷ 2 ∷ 2 ∷ 2 ∷ []
+  pub two-m25p128 : timed-on 4 sizes ≡ 2 ∷ 2 ∷ 2 ∷ 2 ∷ 0 ∷ 2 ∷ 2 ∷ []
+  pub two-older : timed-on 5 sizes ≡ 2 ∷ 0 ∷ 2 ∷ 2 ∷ 2 ∷ 0 ∷ 2 ∷ []
+  pub two-m25pe40 : timed-on 6 sizes ≡ 2 ∷ 2 ∷ 0 ∷ 2 ∷ 2 ∷ 2 ∷ 0 ∷ []
   pub two-near : timed-on 4 (0 ∷ 16777215 ∷ 16777216 ∷ 16777217 ∷ []) ≡ 2 ∷ 2 ∷ 0 ∷ 2 ∷ []
   -- 41: every mask's length but 256
   pub forty-one : map maskNumber (0 ∷ 1 ∷ 255 ∷ 256 ∷ 257 ∷ 512 ∷ []) ≡ 41 ∷ 41 ∷ 41 ∷ 0 ∷ 41 ∷ 41 ∷ []
@@ -119,7 +121,7 @@ pub record Numbers : Type 0 where
 
 -- computed by the checker
 pub numbers : Numbers
-unfolding figuresOf sound latchAt noSlots noCycle slotsSound cycleSound timeNumber
+unfolding figuresOf sound latchAt noSlots noCycle slotsSound cycleSound timeNumber namedSound locksSound noLocks
 numbers = record {
   two-bench = refl;
   two-m25p10a = refl;
@@ -127,6 +129,7 @@ numbers = record {
   two-m25p32 = refl;
   two-m25p128 = refl;
   two-older = refl;
+  two-m25pe40 = refl;
   two-near = refl;
   forty-one = refl;
   order = refl;
@@ -161,7 +164,7 @@ unsound-ones array =
     ∷ chip (remembering (record-of 0 1 true true Deep) erasing-all) array
     ∷ chip (record-of 4 7 true true Deep) array
     ∷ chip (bench 4 false true) array
-    ∷ chip (record-of 6 0 false true Standby) array
+    ∷ chip (record-of 7 0 false true Standby) array
     ∷ []
 
 -- a byte less
@@ -194,7 +197,7 @@ pub record Refusals : Type 0 where
 
 -- computed by the checker
 pub refusals : Refusals
-unfolding figuresOf sound latchAt remembering noSlots noCycle slotsSound cycleSound timeNumber waitCall powerUpCall lossCall
+unfolding figuresOf sound latchAt remembering noSlots noCycle slotsSound cycleSound timeNumber waitCall powerUpCall lossCall namedSound locksSound noLocks poweredUp unlocked locked
 refusals = record {
   wait-six = refl;
   wait-none-six = refl;

@@ -7,12 +7,13 @@ use lib.ListN.{replicate}
 use Rattle.slices.specs.Changed.{mapAt}
 use Rattle.memory.specs.Memory as memory-is
 use Rattle.parts.specs.Parts.{figuresOf}
+use Rattle.device.specs.Locks.{noLocks}
 use Rattle.device.specs.declared.Mode.the-variants.{Standby, Deep}
 use Rattle.device.specs.declared.cycle.Cycle.{Cycle}
 use Rattle.device.specs.Chip.{Chip, chip}
 use Rattle.device.specs.Cycles.{noSlots, noCycle, touched, cut}
-use Rattle.device.specs.Device.{latchAt, moded, settled, remembering, running, ended, statusByte}
-use Rattle.device.specs.Time.{afterCycle, finished, lost, waited}
+use Rattle.device.specs.Device.{latchAt, moded, settled, remembering, running, ended, statusByte, locked}
+use Rattle.device.specs.Time.{afterCycle, finished, poweredUp, lost, waited, unlocked}
 use Rattle.chip.specs.Worked.{record-of, bench}
 use Rattle.told.specs.Cycles.{full, row, programming, erasing-sector, erasing-all, writing, busy-of, some-slots, some-mask}
 
@@ -107,7 +108,7 @@ pub record Waits : Type 0 where
 
 -- computed by the checker
 pub waits : Waits
-unfolding mapAt memory-is.programmed memory-is.erased figuresOf statusByte latchAt moded settled remembering running ended noSlots noCycle touched afterCycle finished waited
+unfolding mapAt memory-is.programmed memory-is.erased figuresOf statusByte latchAt moded settled remembering running ended noSlots noCycle touched afterCycle finished waited noLocks
 waits = record {
   none = refl;
   one = refl;
@@ -137,19 +138,19 @@ waits = record {
 -- what power-up leaves
 pub record PowerUps : Type 0 where
   -- a cycle is completed, at its first tick and on its last
-  pub page : finished (begun 3 program few) ∷ finished (on-last program few) ∷ [] ≡ programmed ∷ programmed ∷ []
-  pub sector : finished (begun 5 erase few) ∷ finished (on-last erase few) ∷ [] ≡ erased ∷ erased ∷ []
-  pub bulk : finished (begun 9 erasing-all few) ∷ finished (on-last erasing-all few) ∷ [] ≡ erased ∷ erased ∷ []
-  pub settings : finished (begun 2 write few) ∷ finished (on-last write few) ∷ [] ≡ written ∷ written ∷ []
+  pub page : poweredUp (begun 3 program few) ∷ poweredUp (on-last program few) ∷ [] ≡ programmed ∷ programmed ∷ []
+  pub sector : poweredUp (begun 5 erase few) ∷ poweredUp (on-last erase few) ∷ [] ≡ erased ∷ erased ∷ []
+  pub bulk : poweredUp (begun 9 erasing-all few) ∷ poweredUp (on-last erasing-all few) ∷ [] ≡ erased ∷ erased ∷ []
+  pub settings : poweredUp (begun 2 write few) ∷ poweredUp (on-last write few) ∷ [] ≡ written ∷ written ∷ []
   -- out of deep power-down and in standby: standby, latch reset, all else kept
-  pub deep : finished (chip (record-of 0 1 true true Deep) few) ≡ rests 1 true few
-  pub deep-reset : finished (chip (record-of 0 3 false false Deep) few) ≡ rests 3 false few
-  pub standby : finished (chip (bench 1 true true) few) ≡ rests 1 true few
-  pub standby-reset : finished (rests 2 false few) ≡ rests 2 false few
+  pub deep : poweredUp (chip (record-of 0 1 true true Deep) few) ≡ rests 1 true few
+  pub deep-reset : poweredUp (chip (record-of 0 3 false false Deep) few) ≡ rests 3 false few
+  pub standby : poweredUp (chip (bench 1 true true) few) ≡ rests 1 true few
+  pub standby-reset : poweredUp (rests 2 false few) ≡ rests 2 false few
 
 -- computed by the checker
 pub power-ups : PowerUps
-unfolding mapAt memory-is.programmed memory-is.erased figuresOf moded settled remembering ended noSlots noCycle touched afterCycle finished
+unfolding mapAt memory-is.programmed memory-is.erased figuresOf moded settled remembering ended noSlots noCycle touched afterCycle finished poweredUp noLocks unlocked locked
 power-ups = record {
   page = refl;
   sector = refl;
@@ -198,7 +199,7 @@ pub record Losses : Type 0 where
 
 -- computed by the checker
 pub losses : Losses
-unfolding mapAt memory-is.cutPage memory-is.cutSector figuresOf moded settled remembering ended noSlots noCycle cut afterCycle lost
+unfolding mapAt memory-is.cutPage memory-is.cutSector figuresOf moded settled remembering ended noSlots noCycle cut afterCycle lost noLocks unlocked locked
 losses = record {
   page = refl;
   page-00 = refl;
@@ -222,7 +223,7 @@ losses = record {
 
 -- the parts but the bench part, by number
 abbrev pub others : List ℕ
-others = 1 ∷ 2 ∷ 3 ∷ 4 ∷ 5 ∷ []
+others = 1 ∷ 2 ∷ 3 ∷ 4 ∷ 5 ∷ 6 ∷ []
 
 -- each of them with so many ticks left of a bulk erase, BP 3, SRWD 1, beside two bytes of its array
 abbrev pub each-erasing : Bool → ℕ → List Chip
@@ -237,16 +238,16 @@ pub record EachPart : Type 0 where
   -- a wait of one tick less than are left, of as many, power-up, a loss
   pub short : map (λ (c : Chip). waited c 8) (each-erasing true 9) ≡ each-erasing false 1
   pub exactly : map (λ (c : Chip). waited c 9) (each-erasing true 9) ≡ each-rests false 0xFF 0xFF
-  pub powered : map finished (each-erasing true 9) ≡ each-rests false 0xFF 0xFF
+  pub powered : map poweredUp (each-erasing true 9) ≡ each-rests false 0xFF 0xFF
   pub cut-short : map (λ (c : Chip). lost c some-mask false) (each-erasing true 9) ≡ each-rests false 0x3D 0xA5
   -- in standby
   pub idle-wait : map (λ (c : Chip). waited c 9) (each-rests true 0x3C 0xA5) ≡ each-rests true 0x3C 0xA5
-  pub idle-power-up : map finished (each-rests true 0x3C 0xA5) ≡ each-rests false 0x3C 0xA5
+  pub idle-power-up : map poweredUp (each-rests true 0x3C 0xA5) ≡ each-rests false 0x3C 0xA5
   pub idle-loss : map (λ (c : Chip). lost c some-mask true) (each-rests true 0x3C 0xA5) ≡ each-rests false 0x3C 0xA5
 
 -- computed by the checker
 pub each-part : EachPart
-unfolding mapAt figuresOf latchAt moded settled remembering running ended noSlots noCycle touched cut afterCycle finished lost waited
+unfolding mapAt figuresOf latchAt moded settled remembering running ended noSlots noCycle touched cut afterCycle finished poweredUp lost waited noLocks unlocked locked
 each-part = record {
   short = refl;
   exactly = refl;

@@ -29,20 +29,9 @@ returns-6 : tie.Need-returns-6
 unfolding missingOf
 returns-6 c = rw (c .enum-told5 .given .1)
 
+returns-7 : tie.Need-returns-7
+unfolding missingOf
+returns-7 c = rw (c .enum-told6 .given .1)
+
 pub missing-of-spec : {M : Type 1} → statement M
-missing-of-spec =
-    tie.close
-    (tie.spec
-    (λ c. search needs)
-    (λ c κs. search needs)
-    (λ c. search needs)
-    (λ c. search needs)
-    (λ c. search needs)
-    (λ c. search needs)
-    (λ c. search needs)
-    returns
-    returns-2
-    returns-3
-    returns-4
-    returns-5
-    returns-6)
+missing-of-spec = tie.close (tie.spec (λ c. search needs) (λ c κs. search needs) (λ c. search needs) (λ c. search needs) (λ c. search needs) (λ c. search needs) (λ c. search needs) (λ c. search needs) returns returns-2 returns-3 returns-4 returns-5 returns-6 returns-7)

@@ -19,21 +19,8 @@ returns-4 c = c .from-on3 .ensures ∙ rw (c .before .enum-told4 .given .1)
 returns-5 : tie.Need-returns-5
 returns-5 c = c .from-on4 .ensures ∙ rw (c .before .enum-told5 .given .1)
 
+returns-6 : tie.Need-returns-6
+returns-6 c = c .from-on5 .ensures ∙ rw (c .before .enum-told6 .given .1)
+
 pub span-of-spec : {M : Type 1} → statement M
-span-of-spec =
-    tie.close
-    (tie.spec
-    (λ c. search needs)
-    (λ c. search needs)
-    (λ c κs. search needs)
-    (λ c. search needs)
-    (λ c κs. search needs)
-    (λ c. search needs)
-    (λ c κs. search needs)
-    (λ c. search needs)
-    (λ c κs. search needs)
-    returns
-    returns-2
-    returns-3
-    returns-4
-    returns-5)
+span-of-spec = tie.close (tie.spec (λ c. search needs) (λ c. search needs) (λ c κs. search needs) (λ c. search needs) (λ c κs. search needs) (λ c. search needs) (λ c κs. search needs) (λ c. search needs) (λ c κs. search needs) (λ c. search needs) (λ c κs. search needs) returns returns-2 returns-3 returns-4 returns-5 returns-6)

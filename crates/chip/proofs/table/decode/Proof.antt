@@ -1,6 +1,6 @@
 -- `chip::table::decode` meets its contract.
-use mathlib.Core.Path.{_∙_}
 use borrow.Author.Tests.{ne-eqb}
+use mathlib.Core.Path.{_∙_}
 use Rattle.chip.specs.Table.{rowOf}
 use borrow.Author.Needs.{needs}
 use Rattle.chip.proofs.table.decode.Statement.{statement}
@@ -52,46 +52,33 @@ returns-11 c = c .only-if2 .ensures ∙ rw (c .before .order3 .ensures, c .befor
 
 returns-12 : tie.Need-returns-12
 unfolding rowOf
-returns-12 c = c .only-if3 .ensures ∙ rw (c .before .also-deep .ensures, c .before .before .reading5 .ensures, c .before .before .before .match .keys12)
+returns-12 c = c .only-if3 .ensures ∙ rw (c .before .release .ensures, c .before .before .match .keys12)
 
 returns-13 : tie.Need-returns-13
 unfolding rowOf
-returns-13 c =
+returns-13 c = c .only-if4 .ensures ∙ rw (c .before .write5 .ensures, c .before .before .match .keys13)
+
+returns-14 : tie.Need-returns-14
+unfolding rowOf
+returns-14 c = c .only-if5 .ensures ∙ rw (c .before .write6 .ensures, c .before .before .match .keys14)
+
+returns-15 : tie.Need-returns-15
+unfolding rowOf
+returns-15 c = c .only-if6 .ensures ∙ rw (c .before .write7 .ensures, c .before .before .match .keys15)
+
+returns-16 : tie.Need-returns-16
+unfolding rowOf
+returns-16 c = c .only-if7 .ensures ∙ rw (c .before .write8 .ensures, c .before .before .match .keys16)
+
+returns-17 : tie.Need-returns-17
+unfolding rowOf
+returns-17 c = c .only-if8 .ensures ∙ rw (c .before .reading5 .ensures, c .before .before .match .keys17)
+
+returns-18 : tie.Need-returns-18
+unfolding rowOf
+returns-18 c =
     let r = c .before .match .rest in
-    c .unknown .ensures ∙ rw (ne-eqb _ _ (r .0 .0 .0 .0 .0 .0 .0 .0 .0 .0 .0 .1), ne-eqb _ _ (r .0 .0 .0 .0 .0 .0 .0 .0 .0 .0 .1), ne-eqb _ _ (r .0 .0 .0 .0 .0 .0 .0 .0 .0 .1), ne-eqb _ _ (r .0 .0 .0 .0 .0 .0 .0 .0 .1), ne-eqb _ _ (r .0 .0 .0 .0 .0 .0 .0 .1), ne-eqb _ _ (r .0 .0 .0 .0 .0 .0 .1), ne-eqb _ _ (r .0 .0 .0 .0 .0 .1), ne-eqb _ _ (r .0 .0 .0 .0 .1), ne-eqb _ _ (r .0 .0 .0 .1), ne-eqb _ _ (r .0 .0 .1), ne-eqb _ _ (r .0 .1), ne-eqb _ _ (r .1))
+    c .unknown .ensures ∙ rw (ne-eqb _ _ (r .0 .0 .0 .0 .0 .0 .0 .0 .0 .0 .0 .0 .0 .0 .0 .0 .1), ne-eqb _ _ (r .0 .0 .0 .0 .0 .0 .0 .0 .0 .0 .0 .0 .0 .0 .0 .1), ne-eqb _ _ (r .0 .0 .0 .0 .0 .0 .0 .0 .0 .0 .0 .0 .0 .0 .1), ne-eqb _ _ (r .0 .0 .0 .0 .0 .0 .0 .0 .0 .0 .0 .0 .0 .1), ne-eqb _ _ (r .0 .0 .0 .0 .0 .0 .0 .0 .0 .0 .0 .0 .1), ne-eqb _ _ (r .0 .0 .0 .0 .0 .0 .0 .0 .0 .0 .0 .1), ne-eqb _ _ (r .0 .0 .0 .0 .0 .0 .0 .0 .0 .0 .1), ne-eqb _ _ (r .0 .0 .0 .0 .0 .0 .0 .0 .0 .1), ne-eqb _ _ (r .0 .0 .0 .0 .0 .0 .0 .0 .1), ne-eqb _ _ (r .0 .0 .0 .0 .0 .0 .0 .1), ne-eqb _ _ (r .0 .0 .0 .0 .0 .0 .1), ne-eqb _ _ (r .0 .0 .0 .0 .0 .1), ne-eqb _ _ (r .0 .0 .0 .0 .1), ne-eqb _ _ (r .0 .0 .0 .1), ne-eqb _ _ (r .0 .0 .1), ne-eqb _ _ (r .0 .1), ne-eqb _ _ (r .1))
 
 pub decode-spec : {M : Type 1} → statement M
-decode-spec =
-    tie.close
-    (tie.spec
-    (λ c κs. search needs)
-    (λ c κs. search needs)
-    (λ c κs. search needs)
-    (λ c κs. search needs)
-    (λ c κs. search needs)
-    (λ c κs. search needs)
-    (λ c κs. search needs)
-    (λ c κs. search needs)
-    (λ c κs. search needs)
-    (λ c κs. search needs)
-    (λ c κs. search needs)
-    (λ c κs. search needs)
-    (λ c κs. search needs)
-    (λ c κs. search needs)
-    (λ c κs. search needs)
-    (λ c κs. search needs)
-    (λ c κs. search needs)
-    (λ c κs. search needs)
-    returns
-    returns-2
-    returns-3
-    returns-4
-    returns-5
-    returns-6
-    returns-7
-    returns-8
-    returns-9
-    returns-10
-    returns-11
-    returns-12
-    returns-13)
+decode-spec = tie.close (tie.spec (λ c κs. search needs) (λ c κs. search needs) (λ c κs. search needs) (λ c κs. search needs) (λ c κs. search needs) (λ c κs. search needs) (λ c κs. search needs) (λ c κs. search needs) (λ c κs. search needs) (λ c κs. search needs) (λ c κs. search needs) (λ c κs. search needs) (λ c κs. search needs) (λ c κs. search needs) (λ c κs. search needs) (λ c κs. search needs) (λ c κs. search needs) (λ c κs. search needs) (λ c κs. search needs) (λ c κs. search needs) (λ c κs. search needs) (λ c κs. search needs) (λ c κs. search needs) (λ c κs. search needs) (λ c κs. search needs) (λ c κs. search needs) (λ c κs. search needs) returns returns-2 returns-3 returns-4 returns-5 returns-6 returns-7 returns-8 returns-9 returns-10 returns-11 returns-12 returns-13 returns-14 returns-15 returns-16 returns-17 returns-18)

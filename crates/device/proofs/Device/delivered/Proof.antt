@@ -1,11 +1,12 @@
 -- `device::Device::delivered` meets its contract.
+use Rattle.device.specs.Locks.{noLocks}
 use Rattle.device.specs.Device.{delivered}
 use borrow.Author.Needs.{needs}
 use Rattle.device.proofs.Device.delivered.Statement.{statement}
 use Rattle.device.proofs.Device.delivered.Tie as tie
 
 returns : tie.Need-returns
-unfolding delivered
+unfolding delivered noLocks
 returns c = rw (c .none .ensures)
 
 pub delivered-spec : {M : Type 1} → statement M

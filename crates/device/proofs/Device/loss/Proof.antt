@@ -13,9 +13,9 @@ returns c = handed-kept _ _ _ (c .before .number .ensures ∙ rw (c .before .bef
 returns-2 : tie.Need-returns-2
 unfolding lossCall lost
 returns-2 c =
-    let s = c .before .before .before in
+    let s = c .before .before .before .before in
     let b = s .before .before .before .before in
-    handed-done _ _ _ (b .before .number .ensures ∙ rw (b .before .before .when .ensures)) (b .if1 .left) (rw (c .after-cycle .ensures, s .cut-short .ensures, s .before .before .of .ensures))
+    handed-done _ _ _ (b .before .number .ensures ∙ rw (b .before .before .when .ensures)) (b .if1 .left) (rw (c .unlocked .ensures, c .before .after-cycle .ensures, s .cut-short .ensures, s .before .before .of .ensures))
 
 pub loss-spec : {M : Type 1} → statement M
-loss-spec = tie.close (tie.spec (λ c κs. search needs) (λ c κs. search needs) returns (λ c κs. search needs) (λ c κs. search needs) (λ c κs. search needs) (λ c. search needs) returns-2)
+loss-spec = tie.close (tie.spec (λ c κs. search needs) (λ c κs. search needs) returns (λ c κs. search needs) (λ c κs. search needs) (λ c κs. search needs) (λ c κs. search needs) (λ c. search needs) returns-2)

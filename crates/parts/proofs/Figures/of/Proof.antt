@@ -28,9 +28,13 @@ returns-5 c = c .figures5 .ensures ∙ rw (c .before .match .keys5)
 
 returns-6 : tie.Need-returns-6
 unfolding figuresOf
-returns-6 c = let r = c .before .match .rest in
-    c .figures6 .ensures
-    ∙ rw (ne-eqb _ _ (r .0 .0 .0 .0 .1), ne-eqb _ _ (r .0 .0 .0 .1), ne-eqb _ _ (r .0 .0 .1), ne-eqb _ _ (r .0 .1), ne-eqb _ _ (r .1))
+returns-6 c = c .figures6 .ensures ∙ rw (c .before .match .keys6)
+
+returns-7 : tie.Need-returns-7
+unfolding figuresOf
+returns-7 c = let r = c .before .match .rest in
+    c .figures7 .ensures
+    ∙ rw (ne-eqb _ _ (r .0 .0 .0 .0 .0 .1), ne-eqb _ _ (r .0 .0 .0 .0 .1), ne-eqb _ _ (r .0 .0 .0 .1), ne-eqb _ _ (r .0 .0 .1), ne-eqb _ _ (r .0 .1), ne-eqb _ _ (r .1))
 
 pub of-spec : {M : Type 1} → statement M
 of-spec =
@@ -42,9 +46,11 @@ of-spec =
     (λ c κs. search needs)
     (λ c κs. search needs)
     (λ c κs. search needs)
+    (λ c κs. search needs)
     returns
     returns-2
     returns-3
     returns-4
     returns-5
-    returns-6)
+    returns-6
+    returns-7)

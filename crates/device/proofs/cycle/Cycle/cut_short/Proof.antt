@@ -26,5 +26,17 @@ returns-5 : tie.Need-returns-5
 unfolding cut
 returns-5 c = rw (c .enum-told5 .given .1) (sym (map-same _))
 
+returns-6 : tie.Need-returns-6
+unfolding cut
+returns-6 c = c .before .before .cut-write .ensures ∙ rw (c .before .before .before .before .enum-told6 .given .1)
+
+returns-7 : tie.Need-returns-7
+unfolding cut
+returns-7 c = c .before .before .cut-sector2 .ensures ∙ rw (c .before .before .before .before .enum-told7 .given .1)
+
+returns-8 : tie.Need-returns-8
+unfolding cut
+returns-8 c = c .before .before .cut-sector3 .ensures ∙ rw (c .before .before .before .before .enum-told8 .given .1)
+
 pub cut-short-spec : {M : Type 1} → statement M
-cut-short-spec = tie.close (tie.spec (λ c. search needs) (λ c. search needs) (λ c. search needs) (λ c κs. search needs) (λ c. search needs) (λ c κs. search needs) (λ c. search needs) (λ c κs. search needs) (λ c. search needs) returns (λ c. search needs) returns-2 (λ c. search needs) returns-3 (λ c. search needs) returns-4 returns-5)
+cut-short-spec = tie.close (tie.spec (λ c. search needs) (λ c. search needs) (λ c. search needs) (λ c. search needs) (λ c κs. search needs) (λ c. search needs) (λ c κs. search needs) (λ c. search needs) (λ c κs. search needs) (λ c. search needs) (λ c. search needs) (λ c κs. search needs) (λ c. search needs) (λ c κs. search needs) (λ c. search needs) (λ c κs. search needs) returns (λ c. search needs) returns-2 (λ c. search needs) returns-3 (λ c. search needs) returns-4 returns-5 (λ c. search needs) returns-6 (λ c. search needs) returns-7 (λ c. search needs) returns-8)

@@ -6,7 +6,9 @@ use Rattle.device.proofs.cycle.Cycle.sound.Tie as tie
 
 returns : tie.Need-returns
 unfolding cycleSound
-returns c = cc
+returns c =
+    let n = c .before .before .before .before .before .before .before .before .before .before .before in
+    rw (n .named-sound .ensures, n .before .slots-sound .ensures, n .before .before .same .ensures, n .before .before .before .of .ensures)
 
 pub sound-spec : {M : Type 1} → statement M
-sound-spec = tie.close (tie.spec (λ c κs. search needs) (λ c κs. search needs) (λ c κs. search needs) (λ c. search needs) returns)
+sound-spec = tie.close (tie.spec (λ c κs. search needs) (λ c κs. search needs) (λ c κs. search needs) (λ c κs. search needs) (λ c. search needs) returns)

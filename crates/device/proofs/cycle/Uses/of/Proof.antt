@@ -19,5 +19,14 @@ returns-4 c = c .row4 .ensures ∙ rw (c .before .enum-told4 .given .1)
 returns-5 : tie.Need-returns-5
 returns-5 c = c .row5 .ensures ∙ rw (c .before .enum-told5 .given .1)
 
+returns-6 : tie.Need-returns-6
+returns-6 c = c .row6 .ensures ∙ rw (c .before .enum-told6 .given .1)
+
+returns-7 : tie.Need-returns-7
+returns-7 c = c .row7 .ensures ∙ rw (c .before .enum-told7 .given .1)
+
+returns-8 : tie.Need-returns-8
+returns-8 c = c .row8 .ensures ∙ rw (c .before .enum-told8 .given .1)
+
 pub of-spec : {M : Type 1} → statement M
-of-spec = tie.close (tie.spec (λ c. search needs) (λ c κs. search needs) (λ c. search needs) (λ c κs. search needs) (λ c. search needs) (λ c κs. search needs) (λ c. search needs) (λ c κs. search needs) (λ c. search needs) (λ c κs. search needs) returns returns-2 returns-3 returns-4 returns-5)
+of-spec = tie.close (tie.spec (λ c. search needs) (λ c κs. search needs) (λ c. search needs) (λ c κs. search needs) (λ c. search needs) (λ c κs. search needs) (λ c. search needs) (λ c κs. search needs) (λ c. search needs) (λ c κs. search needs) (λ c. search needs) (λ c κs. search needs) (λ c. search needs) (λ c κs. search needs) (λ c. search needs) (λ c κs. search needs) returns returns-2 returns-3 returns-4 returns-5 returns-6 returns-7 returns-8)
