@@ -200,7 +200,7 @@ impl PinsModel for Afterwards {
     }
 }
 
-/// A number of the chip, 11 to 18, is the answer of the run.
+/// A number of the chip, 11 to 19, is the answer of the run.
 fn tells_ignored(outcome: &mut Outcome, _: &[u8], _: &mut [u8]) {
     let told = outcome.numbers().into_iter().find(|number| *number != 0);
     outcome.answer = told.unwrap_or(outcome.answer);
