@@ -76,8 +76,9 @@
  *
  *   Where nothing was driven, and on every number but 0, first and count are 0. The bits missing are 0 on
  *   every number but 0, for every transaction but a page program (02), and in every answer of m25p_deliver,
- *   m25p_wait, m25p_power_up and m25p_loss. m25p_pins gives the sum over its transactions. They are counted
- *   as the program starts, on the array that is lent to that call.
+ *   m25p_wait, m25p_power_up and m25p_loss. m25p_pins gives the sum over its transactions; m25p_batch gives
+ *   it in a buffer of its own, and its answer is the number alone. They are counted as the program starts,
+ *   on the array that is lent to that call.
  *
  *   What the bits missing are good for: a program can only make a 1 a 0. Where it wants a 1 and the array
  *   holds a 0, the 0 stays, the answer number is 0 all the same, and the page does not hold what was
@@ -107,6 +108,8 @@ extern "C" {
 #define M25P_MASK_BYTES 256u         /* the mask of a power loss: a byte for each byte of a page */
 #define M25P_MOST_SENT 65536u        /* the most bytes in one transaction */
 #define M25P_MOST_TICKS 1000000u     /* the longest duration */
+#define M25P_ITEM_WAIT 16u           /* the flag byte of a wait in a batch */
+#define M25P_MISSING_BYTES 8u        /* the sum of the bits missing of a batch */
 
 /* One sample of raw pins: each bit is the level of its pin, bits 5 to 7 are 0. */
 #define M25P_PIN_SELECT 0x01u        /* Chip Select: low while a transaction runs */
@@ -140,7 +143,7 @@ enum m25p_part {
 #define M25P_WRITE_LOCK 0x01u        /* nothing is written, programmed or erased in the sector */
 #define M25P_LOCK_DOWN 0x02u         /* the register is frozen until power-up or a power loss */
 
-/* Answer numbers. On 1 to 8, 21 to 23 and 41 the call was refused and has written nothing anywhere. On 11
+/* Answer numbers. On 1 to 10, 21 to 23 and 41 the call was refused and has written nothing anywhere. On 11
  * to 19 the chip ignored the transaction: record and array stay, the latch included, and the response is
  * all FF. */
 enum m25p_number {
@@ -154,6 +157,8 @@ enum m25p_number {
     M25P_RECORD_UNSOUND = 6,    /* all but deliver: not the packing of a sound record */
     M25P_DURATION = 7,          /* deliver: a duration outside 1 to 1,000,000 */
     M25P_RECORD_LENGTH = 8,     /* all: record_len is not 304 */
+    M25P_BAD_ITEM = 9,          /* batch: a cut item, a flag byte above 16, or a wait not of length 4 */
+    M25P_BATCH_ROOM = 10,       /* batch: responses, answers or missing too short for all items */
 
     M25P_NO_BYTES = 11,         /* nothing was sent */
     M25P_BUSY = 12,             /* busy, and not RDSR */
@@ -178,6 +183,7 @@ enum m25p_number {
  *   m25p_wait, m25p_power_up  8, 6, 2
  *   m25p_loss                 8, 6, 2, 41
  *   m25p_pins                 8, 6, 2, 21, 22, 23
+ *   m25p_batch                8, 6, 2, 9, 10
  */
 
 /* A part as it comes from the factory: the array all FF, BP 0, SRWD 0, latch reset, lock registers 0,
@@ -244,10 +250,11 @@ uint64_t m25p_deliver(uint8_t *record, size_t record_len, uint32_t part,
  * too. Nothing else stops WRLR, neither BP nor W. m25p_power_up and m25p_loss set all registers to 0.
  *
  * Hardware protection of parts 0 to 5: starting from a standby record with SRWD set, as long as w is 0 in
- * every transaction (in m25p_pins, as long as W is low in every sample in which Select rises), no call but
- * m25p_deliver changes BP, SRWD or a byte of a protected sector, power losses included. One WRSR with W
- * high may undo it, and so may one with W low where SRWD is not set, or one that was running at the start.
- * Sectors that BP leaves free are programmed and erased as ever.
+ * every transaction (in m25p_pins, as long as W is low in every sample in which Select rises; in m25p_batch,
+ * as long as bit 0 of every transaction's flag byte is 0), no call but m25p_deliver changes BP, SRWD or a
+ * byte of a protected sector, power losses included. One WRSR with W high may undo it, and so may one with
+ * W low where SRWD is not set, or one that was running at the start. Sectors that BP leaves free are
+ * programmed and erased as ever.
  *
  * What a lock is worth: starting from a standby record of part 6 with a lock register of 3, no transaction
  * and no wait changes that register or a byte of its sector, whatever w is. */
@@ -327,6 +334,46 @@ uint64_t m25p_pins(uint8_t *record, size_t record_len,
                    uint8_t *array, size_t array_len,
                    const uint8_t *samples, size_t samples_len,
                    uint8_t *output, size_t output_len);
+
+/* A batch: many transactions and waits in one call. items is a row of items, one behind the other:
+ *
+ *   bytes 0-1    length, 0 to 65,535, little-endian
+ *   byte 2       flag byte, 0 to 15 for a transaction: bit 0 is W, bits 1 to 3 are the further pulses; 16
+ *                (M25P_ITEM_WAIT) for a wait
+ *   from byte 3  so many bytes: what is sent, or the ticks of a wait, whose length is 4, as 32 bits,
+ *                little-endian
+ *
+ * The items are carried out in order, each as by one call of m25p_transact or m25p_wait: record, array,
+ * responses and answers come out as they would by those. Two batches one after the other are the batch of
+ * both rows one behind the other, where neither is refused.
+ *
+ * responses: the responses of the transactions follow each other, each as long as what was sent: byte i of
+ * it is what the chip drove during byte i, FF where it drove nothing. A wait has none. answers: one byte for
+ * each item, its answer number: 0 for a wait, for a transaction 0 or 11 to 19; a transaction of length 0
+ * is answered with 11. First and count are not told. missing: its first 8 bytes are set (not added to) to
+ * the sum of the items' bits missing, modulo 2 to the power 64, little-endian; 0 for a batch without items,
+ * too. To read it:
+ *
+ *   uint64_t sum = 0;
+ *   for (int i = 8; i-- > 0;)
+ *       sum = sum << 8 | missing[i];
+ *
+ * 9 goes by all items before the first is carried out: one or two bytes that are left at the end, an item
+ * with fewer bytes left than its length, whatever its flag byte, a flag byte of 17 or above, or a wait whose
+ * length is not 4. 10: responses_len below the sum of the transactions' lengths, answers_len below the
+ * number of items, waits counted, or missing_len below 8. Whoever does not want to read the batch first
+ * lends items_len bytes for responses and items_len / 3 for answers, which always suffice. Longer buffers
+ * are good, and what lies beyond is left as it is.
+ *
+ * A refused batch changes nothing: record, array, responses, answers and missing stay as they are. A
+ * transaction that the chip ignores does not refuse the batch: the answer number is 0, and all other bits of
+ * the answer are 0 in any case. An item sends at most 65,535 bytes, one fewer than m25p_transact can. */
+uint64_t m25p_batch(uint8_t *record, size_t record_len,
+                    uint8_t *array, size_t array_len,
+                    const uint8_t *items, size_t items_len,
+                    uint8_t *responses, size_t responses_len,
+                    uint8_t *answers, size_t answers_len,
+                    uint8_t *missing, size_t missing_len);
 
 /* The answer number, one of enum m25p_number: the test for executed. */
 static inline unsigned m25p_answer(uint64_t answer)

@@ -86,6 +86,8 @@ static uint64_t call(const struct request *r)
         return m25p_pins(S(0), S(1), S(2), S(3));
     case 5:
         return m25p_loss(S(0), S(1), S(2), N(0));
+    case 6:
+        return m25p_batch(S(0), S(1), S(2), S(3), S(4), S(5));
     default:
         fprintf(stderr, "bridge: there is no call %u\n", (unsigned)r->call);
         exit(1);

@@ -4,7 +4,7 @@ use std::fmt;
 
 /// What a call answers, with the number that it has in the C calls.
 ///
-/// From 1 to 8 and from 21 on, the call was refused and has changed nothing. From 11 to 19 the chip ignored
+/// From 1 to 10 and from 21 on, the call was refused and has changed nothing. From 11 to 19 the chip ignored
 /// the transaction: record and array stay, and what it drives reads FF.
 #[derive(Clone, Copy, Debug, PartialEq, Eq, Hash)]
 #[repr(u8)]
@@ -27,6 +27,10 @@ pub enum Answer {
     Duration = 7,
     /// The packed record is not [`RECORD_BYTES`](crate::RECORD_BYTES) long.
     RecordLength = 8,
+    /// Batch: a cut item, a flag above 16, or a wait not of length 4.
+    BadItem = 9,
+    /// Batch: a buffer is too short for all items.
+    BatchRoom = 10,
     /// No whole byte was sent.
     NoBytes = 11,
     /// The chip is busy, and this is not a status read.
@@ -57,7 +61,7 @@ pub enum Answer {
 
 impl Answer {
     /// All answers, by number.
-    pub const ALL: [Answer; 22] = [
+    pub const ALL: [Answer; 24] = [
         Answer::Executed,
         Answer::UnknownPart,
         Answer::ArrayLength,
@@ -67,6 +71,8 @@ impl Answer {
         Answer::RecordUnsound,
         Answer::Duration,
         Answer::RecordLength,
+        Answer::BadItem,
+        Answer::BatchRoom,
         Answer::NoBytes,
         Answer::Busy,
         Answer::Deep,
@@ -116,6 +122,8 @@ impl Answer {
             Answer::RecordUnsound => "the record is not sound, or not packed so",
             Answer::Duration => "a duration is outside 1 to 1,000,000",
             Answer::RecordLength => "the packed record has another length",
+            Answer::BadItem => "an item is cut, has a flag above 16, or is a wait not of length 4",
+            Answer::BatchRoom => "a buffer is too short for all items of the batch",
             Answer::NoBytes => "no whole byte was sent",
             Answer::Busy => "the chip is busy, and this is not a status read",
             Answer::Deep => "the chip is in deep power-down, and this is not the release from it",

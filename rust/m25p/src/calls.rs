@@ -50,3 +50,19 @@ pub fn loss(record: &mut [u8], array: &mut [u8], mask: &[u8], yes: u32) -> Reply
 pub fn pins(record: &mut [u8], array: &mut [u8], samples: &[u8], output: &mut [u8]) -> Reply {
     Reply::new(library::pins(record, array, samples, output))
 }
+
+/// A batch of items (see [`batch`](crate::batch)): transactions and waits are carried out in order, each as by a
+/// call of its own. The responses follow each other, the answers are one byte for each item, waits too, and
+/// the first eight bytes of `missing` are set to the sum of the bits missing, modulo 2 to the power 64 and
+/// little-endian; what lies behind stays. As many response bytes as the items have, and a third of that as
+/// answers, always suffice. Answers 8, 6, 2, 9, 10.
+pub fn batch(
+    record: &mut [u8],
+    array: &mut [u8],
+    items: &[u8],
+    responses: &mut [u8],
+    answers: &mut [u8],
+    missing: &mut [u8],
+) -> Reply {
+    Reply::new(library::batch(record, array, items, responses, answers, missing))
+}

@@ -2,6 +2,7 @@
 
 use std::ops::Range;
 
+use crate::batch::{self, HEAD_BYTES};
 use crate::calls;
 use crate::{Answer, Buffer, Cycle, Durations, Part, Reply, MASK_BYTES, RECORD_BYTES};
 
@@ -37,6 +38,18 @@ pub struct Run {
     /// The bits missing, summed over the transactions carried out, see [`Response::missing`]. A run executes
     /// at most one program, so they are at most 2,048.
     pub missing: u32,
+}
+
+/// What the items of a batch answered and drove.
+#[derive(Clone, Debug, PartialEq, Eq)]
+pub struct Batch {
+    /// The responses one after the other: of each transaction as many bytes as it sent, FF where the chip
+    /// drove nothing. A wait has none.
+    pub responses: Vec<u8>,
+    /// The answer number of each item: 0 or 11 to 19, and 0 for a wait.
+    pub answers: Vec<u8>,
+    /// The bits missing, summed over the transactions modulo 2 to the power 64, see [`Response::missing`].
+    pub missing: u64,
 }
 
 impl Response {
@@ -81,6 +94,23 @@ impl Chip {
         let mut output = vec![0; samples.len()];
         let reply = calls::pins(&mut self.record, &mut self.array, samples, &mut output);
         reply.answer().executed().map(|()| Run { output, missing: reply.missing() })
+    }
+
+    /// The items of a batch in order, see [`batch`](crate::batch): record and array become what they become by
+    /// [`transact`](Chip::transact) and [`wait`](Chip::wait), item by item. Refused with [`Answer::BadItem`],
+    /// wherever the bad item is; nothing is carried out then.
+    pub fn batch(&mut self, items: &[u8]) -> Result<Batch, Answer> {
+        let mut responses = vec![0; items.len()];
+        let mut answers = vec![0; items.len() / HEAD_BYTES];
+        let mut missing = [0; 8];
+        let (record, array) = (&mut self.record, &mut self.array);
+        calls::batch(record, array, items, &mut responses, &mut answers, &mut missing)
+            .answer()
+            .executed()?;
+        let lengths = || batch::items(items).flatten().map(|item| item.response_bytes());
+        responses.truncate(lengths().sum());
+        answers.truncate(lengths().count());
+        Ok(Batch { responses, answers, missing: u64::from_le_bytes(missing) })
     }
 
     /// Lets ticks pass; a cycle with no more ticks left ends, and only then array or settings change. In its

@@ -40,6 +40,9 @@
 //! }
 //! ```
 //!
+//! A day's transactions and waits can be given as one row of bytes ([`Chip::batch`]), which the module
+//! [`batch`] writes and reads.
+//!
 //! The functions in [`calls`] are the C calls themselves, on slices of any length.
 //!
 //! `libm25p.a` is for x86-64 and is linked there: the build takes it from `M25P_LIB_DIR`, or from
@@ -50,6 +53,7 @@
 #![deny(missing_docs)]
 
 mod answer;
+pub mod batch;
 mod buffer;
 pub mod calls;
 mod chip;
@@ -72,7 +76,7 @@ mod kit;
 
 pub use answer::{Answer, Reply};
 pub use buffer::Buffer;
-pub use chip::{Chip, Response, Run};
+pub use chip::{Batch, Chip, Response, Run};
 pub use cycle::Cycle;
 pub use durations::Durations;
 pub use part::{Part, UnknownPart};

@@ -20,6 +20,7 @@ const WAIT: u32 = 2;
 const POWER_UP: u32 = 3;
 const PINS: u32 = 4;
 const LOSS: u32 = 5;
+const BATCH: u32 = 6;
 
 pub fn deliver(record: &mut [u8], part: u32, array: &mut [u8], durations: [u32; 4]) -> u64 {
     let [program, sector_erase, bulk_erase, write_status] = durations;
@@ -56,6 +57,20 @@ pub fn loss(record: &mut [u8], array: &mut [u8], mask: &[u8], yes: u32) -> u64 {
 pub fn pins(record: &mut [u8], array: &mut [u8], samples: &[u8], output: &mut [u8]) -> u64 {
     let (record, array) = (Lent::Changed(record), Lent::Changed(array));
     call(PINS, &[], &mut [record, array, Lent::Kept(samples), Lent::Changed(output)])
+}
+
+pub fn batch(
+    record: &mut [u8],
+    array: &mut [u8],
+    items: &[u8],
+    responses: &mut [u8],
+    answers: &mut [u8],
+    missing: &mut [u8],
+) -> u64 {
+    let (record, array) = (Lent::Changed(record), Lent::Changed(array));
+    let (items, responses) = (Lent::Kept(items), Lent::Changed(responses));
+    let (answers, missing) = (Lent::Changed(answers), Lent::Changed(missing));
+    call(BATCH, &[], &mut [record, array, items, responses, answers, missing])
 }
 
 /// The one form of a call: which it is, its numbers, and its slices, each in the order of the C call's

@@ -51,6 +51,20 @@ extern "C" {
         output: *mut u8,
         output_len: usize,
     ) -> u64;
+    fn m25p_batch(
+        record: *mut u8,
+        record_len: usize,
+        array: *mut u8,
+        array_len: usize,
+        items: *const u8,
+        items_len: usize,
+        responses: *mut u8,
+        responses_len: usize,
+        answers: *mut u8,
+        answers_len: usize,
+        missing: *mut u8,
+        missing_len: usize,
+    ) -> u64;
 }
 
 /// Bytes that a call is lent without a copy: any bytes are.
@@ -133,6 +147,32 @@ pub fn pins(record: &mut [u8], array: &mut [u8], samples: &[u8], output: &mut [u
             samples.len(),
             output.as_mut_ptr(),
             output.len(),
+        )
+    }
+}
+
+pub fn batch(
+    record: &mut [u8],
+    array: &mut [u8],
+    items: &[u8],
+    responses: &mut [u8],
+    answers: &mut [u8],
+    missing: &mut [u8],
+) -> u64 {
+    unsafe {
+        m25p_batch(
+            record.as_mut_ptr(),
+            record.len(),
+            array.as_mut_ptr(),
+            array.len(),
+            items.as_ptr(),
+            items.len(),
+            responses.as_mut_ptr(),
+            responses.len(),
+            answers.as_mut_ptr(),
+            answers.len(),
+            missing.as_mut_ptr(),
+            missing.len(),
         )
     }
 }
