@@ -60,8 +60,8 @@
  *
  *   An executed PP, SE, BE or WRSR, on part 6 also PW, PE or SSE, starts a cycle. Until its end the record
  *   remembers it, and array, BP and SRWD stay as they are. The cycle acts on the array that is lent at its
- *   end, which is one of three: its last tick (m25p_wait), m25p_power_up, which completes it, and m25p_loss,
- *   which cuts it.
+ *   end, which is one of three: its last tick (m25p_wait, or a wait in m25p_batch), m25p_power_up, which
+ *   completes it, and m25p_loss, which cuts it.
  *
  * The answer, 64 bits
  *
