@@ -278,5 +278,5 @@ fn parts_and_answers() {
     let error: Box<dyn Error> = Answer::Protected.into();
     assert!(error.to_string().contains("protected"));
     assert!(Answer::Protected.ignored() && Answer::LockFrozen.ignored());
-    assert!(!Answer::Duration.ignored() && !Answer::SampleBits.ignored());
+    assert!(!Answer::BatchRoom.ignored() && !Answer::SampleBits.ignored());
 }
