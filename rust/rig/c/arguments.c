@@ -7,7 +7,7 @@
 
 #include "m25p.h"
 
-enum { MOST_POINTERS = 4, MOST_NUMBERS = 7, ROOM = 262144, CLOCKED = 83 };
+enum { MOST_POINTERS = 6, MOST_NUMBERS = 7, ROOM = 262144, CLOCKED = 83 };
 
 /* What a call is given: its pointers and its numbers, lengths among them, each in the header's order. Every
  * pointer has a room of its own, larger than any length below, so that no exchange leads out of it. */
@@ -53,6 +53,11 @@ static uint64_t loss(uint8_t *const p[], const uint64_t n[])
 static uint64_t pins(uint8_t *const p[], const uint64_t n[])
 {
     return m25p_pins(p[0], n[0], p[1], n[1], p[2], n[2], p[3], n[3]);
+}
+
+static uint64_t batch(uint8_t *const p[], const uint64_t n[])
+{
+    return m25p_batch(p[0], n[0], p[1], n[1], p[2], n[2], p[3], n[3], p[4], n[4], p[5], n[5]);
 }
 
 static void set(struct call *call, int numbers, const uint64_t *number)
@@ -203,6 +208,33 @@ static int right_pins(const struct call *call)
     return n == 3 * CLOCKED && output[64] == M25P_NOT_DRIVEN && output[n] == 0x5C;
 }
 
+/* FF over the first byte, eight status reads, 20 ticks, and a READ of that byte. The buffers have just the
+ * lengths that are needed, so that none will do for another. */
+static void prepare_batch(struct call *call)
+{
+    const uint8_t program[8] = {5, 0, 1, 0x02, 0, 0, 0, 0xFF}, status[5] = {2, 0, 1, 0x05};
+    const uint8_t wait[7] = {4, 0, M25P_ITEM_WAIT, 20}, read[8] = {5, 0, 1, 0x03};
+    record(room[0], 0);
+    memcpy(room[2], program, 8);
+    for (int i = 0; i < 8; i++)
+        memcpy(room[2] + 8 + 5 * i, status, 5);
+    memcpy(room[2] + 48, wait, 7);
+    memcpy(room[2] + 55, read, 8);
+    set(call, 6, (const uint64_t[]){304, M25P_M25P10A_BYTES, 63, 5 + 8 * 2 + 5, 1 + 8 + 1 + 1, 8});
+}
+
+/* Four bits are missing, the status is that of a busy chip with SRWD set, and the byte is 5A as before. */
+static int right_batch(const struct call *call)
+{
+    const uint8_t missing[8] = {4}, answers[11] = {0};
+    for (int i = 0; i < 26; i++)
+        if (room[3][i] != (i == 25 ? 0x5A : i > 5 && i < 21 && i % 2 == 0 ? 0x83 : 0xFF))
+            return 0;
+    return call->answer == 0 && rested() && room[1][0] == 0x5A && room[3][26] == 0x5C
+        && memcmp(room[4], answers, 11) == 0 && room[4][11] == 0x5D
+        && memcmp(room[5], missing, 8) == 0 && room[5][8] == 0x5E;
+}
+
 static void run(struct call *call, int i, int j, int of_pointers)
 {
     for (int r = 0; r < MOST_POINTERS; r++)
@@ -259,6 +291,7 @@ int main(void)
     static struct call calls[] = {
         CALL(deliver, 2, 7), CALL(transact, 4, 6), CALL(wait, 2, 3),
         CALL(power_up, 2, 2), CALL(loss, 3, 4), CALL(pins, 4, 4),
+        CALL(batch, 6, 6),
     };
     int fine = 1;
     for (size_t i = 0; i < sizeof calls / sizeof *calls; i++)

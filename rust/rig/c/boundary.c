@@ -1,16 +1,8 @@
 /* boundary.c - the C calls at their limits: empty slices with and without an address, lengths beyond 32
  * bits, full 32-bit numbers, rewrites without an erase, power losses, lock registers, every part. Prints
  * one line for each call: its name, answer number, first, count and bits missing; of each part one line: the
- * answers of delivery, RDID and RES, and what the two drive. */
-#define _GNU_SOURCE
-#include <stdio.h>
-#include <string.h>
-#include <sys/mman.h>
-
-#include "m25p.h"
-
-/* More than 2^32 bytes of address space, of which at most 16 MiB are touched. */
-static const size_t HUGE_BYTES = ((size_t)1 << 32) + 8192;
+ * answers of delivery, RDID and RES, and what the two drive. Batches are in batch.c. */
+#include "limits.h"
 
 static uint8_t record[M25P_RECORD_BYTES];
 static uint8_t array[M25P_BENCH_BYTES];
@@ -19,11 +11,6 @@ static uint8_t response[M25P_MOST_SENT + 1];
 static uint8_t mask[M25P_MASK_BYTES + 1];
 static const uint8_t samples[3] = {M25P_PINS_AT_REST, M25P_PIN_W | M25P_PIN_HOLD, M25P_PINS_AT_REST};
 static uint8_t *huge;
-
-static void show(const char *name, uint64_t a)
-{
-    printf("%s: %u %u %u %u\n", name, m25p_answer(a), m25p_first(a), m25p_count(a), m25p_missing(a));
-}
 
 static void fresh(void)
 {
@@ -280,11 +267,7 @@ static void parts(void)
 
 int main(void)
 {
-    huge = mmap(NULL, HUGE_BYTES, PROT_READ | PROT_WRITE, MAP_PRIVATE | MAP_ANONYMOUS | MAP_NORESERVE, -1, 0);
-    if (huge == MAP_FAILED) {
-        perror("mmap");
-        return 1;
-    }
+    huge = huge_slice();
     sent[0] = 0x05;
     empty("an address", array);
     beyond_32_bits();

@@ -1,31 +1,14 @@
-//! C and C++ programs over m25p.h and libm25p.a, built with warnings as errors, and what they print.
+//! C and C++ programs over m25p.h and libm25p.a, built with warnings as errors, and what they print. Those of batches are
+//! in `c_batch.rs`.
 
-use std::path::{Path, PathBuf};
+#[path = "support/c.rs"]
+mod c;
+
+use std::path::Path;
 use std::process::{Command, Output};
 
+use c::{file, prints};
 use rig::kit;
-
-/// A file of the repository.
-fn file(name: &str) -> PathBuf {
-    Path::new(env!("CARGO_MANIFEST_DIR")).join("../..").join(name)
-}
-
-/// Builds the program and compares what it prints, or tells why this machine can't.
-fn prints(standard: &str, source: &str, expected: &str) {
-    let program = Path::new(env!("CARGO_TARGET_TMPDIR")).join(source.replace(['/', '.'], "_"));
-    let path = file(source);
-    if let Some(missing) = kit::missing(&path) {
-        rig::tell(&format!("skipped: {source} is not built. {missing}"));
-        return;
-    }
-    let flags = [standard, "-O2", "-Wall", "-Wextra", "-Wpedantic", "-Werror"];
-    let built = kit::build(&path, &flags, Path::new(env!("M25P_ARCHIVE")), &program);
-    built.unwrap_or_else(|why| panic!("{source} does not build. {why}"));
-    let run = kit::command(&program).unwrap().output().unwrap();
-    let text = String::from_utf8(run.stdout).unwrap();
-    assert!(run.status.success(), "{source}: {}, having printed\n{text}", run.status);
-    assert_eq!(text, expected);
-}
 
 const FIRST: &str = "\
 identification   00 00 0C
@@ -83,6 +66,7 @@ m25p_wait: right, 4 of 4 exchanges noticed
 m25p_power_up: right, 2 of 2 exchanges noticed
 m25p_loss: right, 9 of 9 exchanges noticed
 m25p_pins: right, 12 of 12 exchanges noticed
+m25p_batch: right, 30 of 30 exchanges noticed
 ";
     prints("-std=c99", "rust/rig/c/arguments.c", expected);
 }
@@ -119,13 +103,14 @@ fn proved(call: &str) -> Vec<String> {
 }
 
 /// The calls, and how many arguments each has.
-const CALLS: [(&str, usize); 6] = [
+const CALLS: [(&str, usize); 7] = [
     ("m25p_deliver", 9),
     ("m25p_transact", 10),
     ("m25p_wait", 5),
     ("m25p_power_up", 4),
     ("m25p_loss", 7),
     ("m25p_pins", 8),
+    ("m25p_batch", 12),
 ];
 
 /// The header, its page and the library name the same arguments in the same order.
