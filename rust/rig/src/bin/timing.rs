@@ -1,5 +1,9 @@
 //! Times long reads, bulk erases, cut ones too, and raw pins through the C calls against plain Rust, side by side in
-//! one run on x86-64, where both run on the same processor; and short transactions by themselves.
+//! one run on x86-64, where both run on the same processor; short transactions by themselves; and a day's batch against
+//! the same items in calls of their own.
+
+#[path = "timing/day.rs"]
+mod day;
 
 use std::hint::black_box;
 use std::process::ExitCode;
@@ -221,5 +225,6 @@ fn main() -> ExitCode {
     time_short(Part::M25p32);
     time_pins("mode 0", SpiMode::Zero);
     time_pins("mode 3", SpiMode::Three);
+    day::time_day(Part::M25p40);
     ExitCode::SUCCESS
 }
