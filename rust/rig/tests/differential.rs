@@ -38,8 +38,9 @@ fn calls_equal_model() {
         }
     }
     tell(&format!("differential: {}", tally.show()));
-    // 21 to 23 are answers of raw pins, which a test of their own compares.
-    for answer in Answer::ALL.into_iter().filter(|answer| !(21..=23).contains(&(*answer as u8))) {
+    // 9 and 10 are answers of batches, 21 to 23 of raw pins: tests of their own compare these.
+    let elsewhere = |answer: &Answer| matches!(answer.number(), 9 | 10 | 21..=23);
+    for answer in Answer::ALL.into_iter().filter(|answer| !elsewhere(answer)) {
         let times = tally.answers[answer as usize];
         assert!(times >= 20, "answer {} came {times} times only", answer as u8);
     }
