@@ -154,6 +154,22 @@ fn a_day() {
     assert_eq!((chip.array()[0x100], chip.array()[0x1FF]), (0x0F, 0xA0));
 }
 
+/// A status write over SRWD set, with every flag of a transaction: only W high and no further pulses execute it.
+#[test]
+fn w_and_pulses() {
+    let mut frozen = Chip::deliver(Part::Bench, Durations::default()).unwrap();
+    frozen.batch(&written(&[send(&[0x06]), send(&[0x01, 0x80]), Item::Wait { ticks: 2 }])).unwrap();
+    for flag in 0..WAIT {
+        let done = frozen.clone().batch(&[1, 0, 0, 0x06, 2, 0, flag, 0x01, 0x00]).unwrap();
+        let answer = match flag {
+            0 => Answer::StatusFrozen,
+            1 => Answer::Executed,
+            _ => Answer::WrongForm,
+        };
+        assert_eq!(done.answers, [0, answer.number()], "flag {flag}");
+    }
+}
+
 /// The items of a batch one by one.
 fn singly(chip: &mut Chip, row: &[Item]) -> Batch {
     let mut done = Batch { responses: vec![], answers: vec![], missing: 0 };

@@ -87,15 +87,16 @@ static void refused(const char *name, const struct row *row, int slice, size_t n
     printf("%s\n", memcmp(room, before, sizeof room) == 0 ? "all stayed" : "written");
 }
 
-/* Programs, waits whose ticks are in the highest and in the second byte, a frozen status write, a status read and a
- * READ with further pulses, an item without bytes. */
+/* Programs, waits whose ticks are in the highest and in the second byte, a status write that is frozen with W low and
+ * taken with W high, a status read and a READ with further pulses, an item without bytes. */
 static const uint8_t day[] = {
     1, 0, 1, 0x06, 6, 0, 0, 0x02, 0, 0, 0xFF, 0x0F, 0x33, 4, 0, M25P_ITEM_WAIT, 0, 0, 0, 1,
     1, 0, 0, 0x06, 5, 0, 1, 0x02, 0, 0, 0xFF, 0xFF, 2, 0, 0x0E, 0x05, 0, 4, 0, M25P_ITEM_WAIT, 0, 1, 0, 0,
     1, 0, 15, 0x06, 1, 0, 0, 0x06, 2, 0, 1, 0x01, 0x80, 4, 0, M25P_ITEM_WAIT, 2, 0, 0, 0,
-    1, 0, 0, 0x06, 2, 0, 0, 0x01, 0x00, 0, 0, 13, 6, 0, 0x0B, 0x03, 0, 0, 0xFF, 0, 0
+    1, 0, 0, 0x06, 2, 0, 0, 0x01, 0x00, 2, 0, 1, 0x01, 0x00, 4, 0, M25P_ITEM_WAIT, 2, 0, 0, 0,
+    0, 0, 13, 6, 0, 0x0B, 0x03, 0, 0, 0xFF, 0, 0
 };
-static const struct row a_day = {day, sizeof day, 28, 15};
+static const struct row a_day = {day, sizeof day, 30, 17};
 static const struct row none = {day, 0, 0, 0};
 
 static void rooms(void)
@@ -103,9 +104,9 @@ static void rooms(void)
     printf("rooms\n");
     carried("just enough", &a_day, 0, 0, 0);
     carried("more", &a_day, 1, 3, 5);
-    carried("what always suffices", &a_day, sizeof day - 28, sizeof day / 3 - 15, 0);
-    refused("responses too short", &a_day, RESPONSES, 27);
-    refused("answers too short", &a_day, ANSWERS, 14);
+    carried("what always suffices", &a_day, sizeof day - 30, sizeof day / 3 - 17, 0);
+    refused("responses too short", &a_day, RESPONSES, 29);
+    refused("answers too short", &a_day, ANSWERS, 16);
     refused("missing too short", &a_day, MISSING, 7);
     carried("no items", &none, 0, 0, 0);
     refused("no items, missing too short", &none, MISSING, 7);

@@ -9,8 +9,8 @@ use c::{built_prints, file, prints};
 
 /// What is written by the day of the program, and that nothing else is.
 const CARRIED: &str = "\
-answers 00 00 00 00 00 00 00 0F 00 00 00 00 12 0B 00
-responses FF FF FF FF FF FF FF FF FF FF FF FF FF FF 03 FF FF FF FF FF FF FF FF FF FF FF 0F FF
+answers 00 00 00 00 00 00 00 0F 00 00 00 00 12 00 00 0B 00
+responses FF FF FF FF FF FF FF FF FF FF FF FF FF FF 03 FF FF FF FF FF FF FF FF FF FF FF FF FF 0F FF
 missing 04 00 00 00 00 00 00 00
 all else stayed
 ";
