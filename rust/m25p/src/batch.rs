@@ -191,10 +191,10 @@ impl fmt::Display for BadItem {
         write!(f, "the item at byte {} ", self.at)?;
         match self.reason {
             Reason::Head(left) => {
-                write!(f, "is cut: length and flag take 3 bytes, {left} are left")
+                write!(f, "is cut: it has {left} of the 3 bytes of length and flag")
             }
             Reason::Body { length, left } => {
-                write!(f, "is cut: its length is {length}, {left} bytes are left")
+                write!(f, "is cut: it has {left} of the {length} bytes behind its flag")
             }
             Reason::Flag(flag) => write!(f, "has the flag {flag}, which is above 16"),
             Reason::WaitLength(length) => write!(f, "is a wait of length {length}, not of 4"),

@@ -68,18 +68,19 @@ fn unfit_items() {
     assert_eq!(Unfit::Pulses.to_string(), "there are more than 7 further pulses");
 }
 
+/// An item with fewer bytes left than its length.
+const fn cut(length: usize, left: usize) -> Reason {
+    Reason::Body { length, left }
+}
+
 /// Ends of a batch that are bad, why, and in words.
 const BAD: [(&[u8], Reason, &str); 10] = [
-    (&[1], Reason::Head(1), "is cut: length and flag take 3 bytes, 1 are left"),
-    (&[4, 0], Reason::Head(2), "is cut: length and flag take 3 bytes, 2 are left"),
-    (&[1, 0, 0], Reason::Body { length: 1, left: 0 }, "is cut: its length is 1, 0 bytes are left"),
-    (
-        &[0, 1, 15, 0],
-        Reason::Body { length: 256, left: 1 },
-        "is cut: its length is 256, 1 bytes are left",
-    ),
-    (&[4, 0, 16, 0, 0, 0], Reason::Body { length: 4, left: 3 }, "is cut"),
-    (&[2, 0, 17, 0], Reason::Body { length: 2, left: 1 }, "is cut"),
+    (&[1], Reason::Head(1), "is cut: it has 1 of the 3 bytes of length and flag"),
+    (&[4, 0], Reason::Head(2), "is cut: it has 2 of the 3 bytes of length and flag"),
+    (&[1, 0, 0], cut(1, 0), "is cut: it has 0 of the 1 bytes behind its flag"),
+    (&[0, 1, 15, 0], cut(256, 1), "is cut: it has 1 of the 256 bytes behind its flag"),
+    (&[4, 0, 16, 0, 0, 0], cut(4, 3), "is cut: it has 3 of the 4 bytes behind its flag"),
+    (&[2, 0, 17, 0], cut(2, 1), "is cut: it has 1 of the 2 bytes behind its flag"),
     (&[0, 0, 17], Reason::Flag(17), "has the flag 17, which is above 16"),
     (&[4, 0, 255, 0, 0, 0, 0], Reason::Flag(255), "has the flag 255, which is above 16"),
     (&[3, 0, 16, 0, 0, 0], Reason::WaitLength(3), "is a wait of length 3, not of 4"),
@@ -96,7 +97,7 @@ fn bad_items() {
         let error = BadItem { at: 12, reason };
         assert_eq!(read(&bytes), [Ok(good[0]), Ok(good[1]), Err(error)], "{end:?}");
         let said = error.to_string();
-        assert!(said.starts_with(&format!("the item at byte 12 {words}")), "{said}");
+        assert_eq!(said, format!("the item at byte 12 {words}"));
         assert_eq!(read(end), [Err(BadItem { at: 0, ..error })]);
     }
     let followed = [&[0, 0, 17][..], &before].concat();
