@@ -260,6 +260,13 @@ module _ (d : Device) (array sent : List ℕ) (pulses : ℕ) (w : Bool) (respons
       (λ a. host-number d (length array) (length sent) pulses (length response) .0)
       (λ h b. chip-number d (rowIn d sent) (length sent) pulses w (addressOf (figuresOf (d .part)) sent) .0) (λ h t. refl)
 
+  -- where the host side does not refuse, it is 0 or 11 to 19
+  pub chip-answers : host ≡ 0 → (out .answer .number ≡ 0) ⊎ ((11 ≤ out .answer .number) × (out .answer .number ≤ 19))
+  unfolding outcomeOf
+  chip-answers z =
+      outcome-ind (λ (o : Outcome). (o .answer .number ≡ 0) ⊎ ((11 ≤ o .answer .number) × (o .answer .number ≤ 19))) (λ a. absurd (a z))
+      (λ h b. let k = chip-number d (rowIn d sent) (length sent) pulses w (addressOf (figuresOf (d .part)) sent) in inr (k .1 b, k .2)) (λ h t. inl refl)
+
   -- the answer's numbers are few
   pub answer-few : Few (out .answer)
   unfolding outcomeOf

@@ -4,7 +4,7 @@ ghost use mathlib.Core.Bool.{cond};
 ghost use Prim.Native.Nat.{_+_, _*_, _%_, min};
 ghost use lib.ListN.{getD, take};
 ghost use Rattle.slices.specs.Changed.{mapAt, window, put, stored};
-ghost use Rattle.slices.specs.Bytes.{sameBytes, word, wordAt};
+ghost use Rattle.slices.specs.Bytes.{sameBytes, word, long, wordAt};
 
 // The smaller number.
 pub fn least(a: usize, b: usize) -> usize
@@ -133,5 +133,29 @@ pub fn store_word(out: &mut [u8], at: usize, n: u32)
     ensures { λ _. ⌜ now (out .exit) ≡ mapAt (stored at (word n)) (now (out .entry)) ⌝ }
 {
     let bytes = word_bytes(n);
+    store(out, at, &bytes);
+}
+
+// A number's eight bytes, little-endian.
+fn long_bytes(n: u64) -> [u8; 8]
+    ensures { λ r. ⌜ r ≡ long n ⌝ }
+{
+    [
+        (n % 256) as u8,
+        (n / 256 % 256) as u8,
+        (n / 65536 % 256) as u8,
+        (n / 16777216 % 256) as u8,
+        (n / 4294967296 % 256) as u8,
+        (n / 1099511627776 % 256) as u8,
+        (n / 281474976710656 % 256) as u8,
+        (n / 72057594037927936 % 256) as u8,
+    ]
+}
+
+// The bytes from `at` on become a number's eight, as far as there are any.
+pub fn store_long(out: &mut [u8], at: usize, n: u64)
+    ensures { λ _. ⌜ now (out .exit) ≡ mapAt (stored at (long n)) (now (out .entry)) ⌝ }
+{
+    let bytes = long_bytes(n);
     store(out, at, &bytes);
 }
