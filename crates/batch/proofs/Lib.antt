@@ -1,0 +1,9 @@
+-- Laws of batches.
+pub mod Items
+pub mod One
+pub mod Going
+pub mod Runs
+pub mod Taken
+pub mod Singly
+pub mod Append
+pub mod Theorems
