@@ -1,7 +1,7 @@
 -- The numbers of every call's answer come apart again, by the bits that docs/C-CALLS.md names, without a premise.
 -- Assumes nothing.
 use mathlib.Core.Path.{_≡_}
-use mathlib.Core.Bool.{Bool, not, _&&_}
+use mathlib.Core.Bool.{Bool, not, _&&_, _||_}
 use mathlib.Core.List.{List}
 use Prim.Native.Nat.{ℕ, _/_, _%_, _≤_, _<_}
 use native.Mathlib.Omega.{arith}
@@ -21,8 +21,11 @@ use Rattle.chip.proofs.Rules.{Few, answer-few}
 use Rattle.pins.specs.Pins.{oddSamples, tooLong}
 use Rattle.pins.specs.Run.{runAnswer, answerOf}
 use Rattle.pins.proofs.Runs as pins
+use Rattle.batch.specs.Items.{itemsOf, allGood, eventsOf}
+use Rattle.batch.specs.Batch.{roomFor, missingBytes, batchNumber}
 use Rattle.m25p.specs.Calls.{packedAnswer, high, transactedC, Called, timedC, CalledOn, deliveryC, DeliveredC}
 use Rattle.m25p.specs.Pins.{pinsC, RanC}
+use Rattle.m25p.specs.Batch.{batchC, BatchedC}
 
 -- bits 0 to 7, 8 to 15, 16 to 47 and 48 to 63 are the answer's numbers, and there are no bits above
 pub record Apart (r : ℕ) (a : Answer) : Type 0 where
@@ -117,3 +120,18 @@ pins-apart packed array samples output ran =
     let d = unpackOf packed .device in
     rw (ran .answer)
     (apart (answerOf k d array samples) (omega (arith, pins-few packed array samples output)) (omega arith) (omega arith) (omega (arith, pins.answer-few k d array samples)))
+
+-- a batch
+pub batch-apart : (packed array items responses answers missing : List ℕ) {r : ℕ} {packed′ array′ responses′ answers′ missing′ : List ℕ} → BatchedC packed array items responses answers missing r packed′ array′ responses′ answers′ missing′
+    → Apart r (bare (batchC packed (length array) items (length responses) (length answers) (length missing)))
+unfolding batchC batchNumber
+batch-apart packed array items responses answers missing b =
+    let P : ℕ → Type 0 = λ k. k ≤ 41 in
+    let d = unpackOf packed .device in
+    apart-bare (b .answer)
+    (zero-ind P (unpackAnswer packed)
+    (cond-ind P (not (sound d)) (lit≤ tt)
+    (cond-ind P (not (eqb (length array) (figuresOf (d .part) .bytes))) (lit≤ tt)
+    (cond-ind P (not (allGood (itemsOf items))) (lit≤ tt)
+    (cond-ind P (ltb (length responses) (roomFor (eventsOf items)) || ltb (length answers) (length (eventsOf items)) || ltb (length missing) missingBytes) (lit≤ tt) (lit≤ tt)))))
+    (omega (arith, unpack-few packed)))

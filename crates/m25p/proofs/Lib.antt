@@ -1,4 +1,5 @@
 -- Laws of the C calls.
 pub mod Laws
 pub mod Pins
+pub mod Batch
 pub mod Apart

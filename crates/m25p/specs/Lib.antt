@@ -1,3 +1,4 @@
 -- What the C calls mean.
 pub mod Calls
 pub mod Pins
+pub mod Batch

@@ -1,4 +1,4 @@
-// The C calls: delivery, transaction, wait, power-up, power loss and raw pins over the packed bytes of a record.
+// The C calls: delivery, transaction, wait, power-up, power loss, raw pins and a batch over the packed bytes of a record.
 ghost use mathlib.Core.Path.{_≡_};
 ghost use Prim.Native.Nat.{_≤_};
 ghost use Rattle.memory.specs.Missing.{mostMissing};
@@ -8,6 +8,7 @@ ghost use Rattle.device.specs.Packing.{packOf};
 ghost use Rattle.device.specs.Time.{waitCall, powerUpCall, lossCall};
 ghost use Rattle.m25p.specs.Calls.{packedAnswer, transactedC, Called, high, timedC, CalledOn, DeliveredC};
 ghost use Rattle.m25p.specs.Pins.{RanC};
+ghost use Rattle.m25p.specs.Batch.{BatchedC};
 ghost use Rattle.chip.specs.Outcome;
 use chip::Answer;
 use device::Device;
@@ -142,4 +143,25 @@ pub extern "C" fn m25p_pins(
     let answer = done.answer;
     store(answer.number, done.device, packed);
     packed_answer(answer)
+}
+
+// A batch: its items carried out in order, or nothing at all.
+#[no_mangle]
+pub extern "C" fn m25p_batch(
+    packed: &mut [u8],
+    array: &mut [u8],
+    items: &[u8],
+    responses: &mut [u8],
+    answers: &mut [u8],
+    missing: &mut [u8],
+) -> u64
+    ensures { λ r. ⌜ BatchedC (now (packed .entry)) (now (array .entry)) (now (items .entry)) (now (responses .entry)) (now (answers .entry)) (now (missing .entry)) r (now (packed .exit)) (now (array .exit)) (now (responses .exit)) (now (answers .exit)) (now (missing .exit)) ⌝ }
+{
+    let came = unpack(packed);
+    if came.answer != 0 {
+        return bare(came.answer);
+    }
+    let done = batch::run(came.device, array, items, responses, answers, missing);
+    store(done.answer, done.device, packed);
+    bare(done.answer)
 }
