@@ -1,4 +1,4 @@
--- The definitions of `slices`, `parts`, `memory`, `device`, `chip` and `m25p` told a second time: literal numbers, written from the paper and computed by the checker.
+-- The definitions of `slices`, `parts`, `memory`, `device`, `chip`, `batch` and `m25p` told a second time: literal numbers, written from the paper and computed by the checker.
 pub mod Figures
 pub mod Cycles
 pub mod Record
@@ -21,3 +21,4 @@ pub mod PeCycles
 pub mod Locks
 pub mod Locked
 pub mod PeCalls
+pub mod Batches
