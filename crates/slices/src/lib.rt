@@ -137,18 +137,18 @@ pub fn store_word(out: &mut [u8], at: usize, n: u32)
 }
 
 // A number's eight bytes, little-endian.
-fn long_bytes(n: u64) -> [u8; 8]
-    ensures { λ r. ⌜ r ≡ long n ⌝ }
+fn long_bytes(v: u64) -> [u8; 8]
+    ensures { λ r. ⌜ r ≡ long v ⌝ }
 {
     [
-        (n % 256) as u8,
-        (n / 256 % 256) as u8,
-        (n / 65536 % 256) as u8,
-        (n / 16777216 % 256) as u8,
-        (n / 4294967296 % 256) as u8,
-        (n / 1099511627776 % 256) as u8,
-        (n / 281474976710656 % 256) as u8,
-        (n / 72057594037927936 % 256) as u8,
+        (v % 256) as u8,
+        (v / 256 % 256) as u8,
+        (v / 65536 % 256) as u8,
+        (v / 16777216 % 256) as u8,
+        (v / 4294967296 % 256) as u8,
+        (v / 1099511627776 % 256) as u8,
+        (v / 281474976710656 % 256) as u8,
+        (v / 72057594037927936 % 256) as u8,
     ]
 }
 
