@@ -1,8 +1,10 @@
 //! The comparison: one call is made to libm25p.a and to the model, and every lent byte is compared.
 
+mod batches;
 mod ends;
 mod locks;
 mod tally;
+mod words;
 
 pub use tally::Tally;
 
@@ -10,10 +12,12 @@ use std::ops::Range;
 
 use m25p::{calls, Buffer};
 
+use crate::batch_model::{BatchModel, Buffers, Day};
 use crate::model::{self, address, Cycle, Mode, Model, Packed, Paper, Record, Transaction};
 use crate::model::{PARTS, RECORD_BYTES};
 use crate::pins_model::{Found, PinsModel};
 use crate::rng::Rng;
+use words::describe;
 
 /// Bytes behind each buffer that no call may touch, and that longer lengths reach into.
 pub const SPARE: usize = 16;
@@ -32,6 +36,7 @@ pub enum Call {
     PowerUp,
     Loss { mask: Vec<u8>, yes: u32 },
     Pins { samples: Vec<u8> },
+    Batch { items: Vec<u8> },
 }
 
 /// A buffer that a call fills: its bytes before the call, more than are lent, and the length that is named.
@@ -50,17 +55,18 @@ pub struct Step {
     pub filled: Vec<Filled>,
 }
 
-/// What the model answers: the 64 bits, and of raw pins what was found and the chip's answer to each
-/// transaction carried out.
+/// What the model answers: the 64 bits, of raw pins what was found, of a batch what was read, and of both the chip's
+/// answer to each transaction or item carried out.
 pub struct Seen {
     word: u64,
     pub found: Vec<Found>,
+    pub day: Day,
     pub chip: Vec<model::Outcome>,
 }
 
 impl Seen {
     fn only(word: u64) -> Seen {
-        Seen { word, found: vec![], chip: vec![] }
+        Seen { word, found: vec![], day: Day::default(), chip: vec![] }
     }
 
     /// The 64 bits.
@@ -83,10 +89,11 @@ impl Seen {
 pub struct Rules {
     pub chip: &'static dyn Model,
     pub pins: &'static dyn PinsModel,
+    pub batch: &'static dyn BatchModel,
 }
 
 /// The paper's.
-pub const PAPER: Rules = Rules { chip: &Paper, pins: &Paper };
+pub const PAPER: Rules = Rules { chip: &Paper, pins: &Paper, batch: &Paper };
 
 /// The buffers of one side.
 #[derive(Clone)]
@@ -120,7 +127,8 @@ impl Side {
         (&mut self.record[..step.record_len], &mut self.array[..step.array_len], filled)
     }
 
-    fn call(&mut self, step: &Step) -> u64 {
+    /// Makes the call of the library: the 64 bits.
+    pub fn call(&mut self, step: &Step) -> u64 {
         let (record, array, mut filled) = self.lend(step);
         let reply = match &step.call {
             Call::Deliver { part, durations } => {
@@ -133,6 +141,10 @@ impl Side {
             Call::PowerUp => calls::power_up(record, array),
             Call::Loss { mask, yes } => calls::loss(record, array, mask, *yes),
             Call::Pins { samples } => calls::pins(record, array, samples, filled[0]),
+            Call::Batch { items } => {
+                let Buffers { responses, answers, missing } = three(&mut filled);
+                calls::batch(record, array, items, responses, answers, missing)
+            }
         };
         reply.bits()
     }
@@ -140,7 +152,7 @@ impl Side {
     /// Makes the call of the model with these rules.
     pub fn model_call(&mut self, step: &Step, rules: Rules) -> Seen {
         let (record, array, mut filled) = self.lend(step);
-        let Rules { chip, pins } = rules;
+        let Rules { chip, pins, batch } = rules;
         match &step.call {
             Call::Deliver { part, durations } => {
                 Seen::only(chip.deliver(record, *part, array, *durations).word())
@@ -154,10 +166,21 @@ impl Side {
             Call::Loss { mask, yes } => Seen::only(chip.loss(record, array, mask, *yes).word()),
             Call::Pins { samples } => {
                 let outcome = pins.run(record, array, samples, filled[0]);
-                Seen { word: outcome.word(), found: outcome.found, chip: outcome.chip }
+                let word = outcome.word();
+                Seen { found: outcome.found, chip: outcome.chip, ..Seen::only(word) }
+            }
+            Call::Batch { items } => {
+                let outcome = batch.run(record, array, items, &mut three(&mut filled));
+                Seen { day: outcome.day, chip: outcome.chip, ..Seen::only(outcome.word) }
             }
         }
     }
+}
+
+/// The three buffers that a batch fills.
+fn three<'a>(filled: &'a mut [&mut [u8]]) -> Buffers<'a> {
+    let [responses, answers, missing] = filled else { panic!("a batch fills three buffers") };
+    Buffers { responses, answers, missing }
 }
 
 /// One chip on both sides.
@@ -194,6 +217,7 @@ impl Pair {
         // The model goes first, so that the tally sees the array from before the call.
         let seen = self.modelled.model_call(step, self.rules);
         tally.count(step, &seen, &self.modelled.filled, &self.real.array);
+        tally.batches.count(step, &seen, lent);
         if let Some(lent) = lent.filter(|_| step.record_len == RECORD_BYTES) {
             tally.ends.count(step, &seen, &lent);
             tally.locks.count(step, &seen, &lent);
@@ -242,7 +266,7 @@ impl Pair {
             start..start + part.sector_bytes
         };
         match (&step.call, cycle) {
-            (Call::Pins { .. }, _) => 0..part.bytes,
+            (Call::Pins { .. } | Call::Batch { .. }, _) => 0..part.bytes,
             (Call::Deliver { .. }, _) if seen.answer() == 0 => 0..part.bytes,
             (Call::Transact { sent, .. }, _) if sent.len() >= 4 => sector(address(part, sent)),
             (Call::Deliver { .. } | Call::Transact { .. }, _) => 0..0,
@@ -270,33 +294,6 @@ fn same(what: &str, start: usize, real: &[u8], expected: &[u8]) -> Result<(), St
     let at = real.iter().zip(expected).position(|(a, b)| a != b).expect("equal lengths");
     let (got, wanted) = (real[at], expected[at]);
     Err(format!("{what} byte {}: {got:02X}, expected {wanted:02X}", start + at))
-}
-
-/// The first of the bytes in hex.
-fn hex(bytes: &[u8], most: usize) -> String {
-    let text: String = bytes.iter().take(most).map(|byte| format!("{byte:02X}")).collect();
-    text + if bytes.len() > most { "..." } else { "" }
-}
-
-fn describe(step: &Step, before: &[u8]) -> String {
-    let record = step.record.as_ref().map_or(&before[..RECORD_BYTES], |record| &record[..]);
-    let call = match &step.call {
-        Call::Deliver { part, durations } => format!("deliver part {part} {durations:?}"),
-        Call::Transact { sent, pulses, w } => {
-            format!("transact n {} {} pulses {pulses} w {w}", sent.len(), hex(sent, 40))
-        }
-        Call::Wait(ticks) => format!("wait {ticks}"),
-        Call::PowerUp => "power-up".to_string(),
-        Call::Loss { mask, yes } => {
-            format!("loss mask n {} {} yes {yes}", mask.len(), hex(mask, 256))
-        }
-        Call::Pins { samples } => format!("{} samples {}", samples.len(), hex(samples, 2_000)),
-    };
-    let filled: Vec<usize> = step.filled.iter().map(|filled| filled.len).collect();
-    let (record, record_len, array_len) = (hex(record, 400), step.record_len, step.array_len);
-    format!(
-        "{call}, record {record}, record_len {record_len}, array_len {array_len}, filled {filled:?}"
-    )
 }
 
 /// Where calls come from.

@@ -1,16 +1,21 @@
 //! Deliberate faults: readings of the paper that look right and are not, each in the place of one rule of the
 //! model. The comparison is made with each of them, to show that it would be seen.
 
+mod batch;
+mod carried;
 mod chip;
 mod cycles;
+mod items;
 mod locks;
 mod losses;
 mod missing;
 mod pins;
+mod room;
 mod soundness;
 mod walk;
 mod writes;
 
+pub use batch::BATCH;
 pub use pins::{LONG, SHORT};
 
 use crate::model::{Cycle, Model, Record};
@@ -32,7 +37,7 @@ macro_rules! named {
 }
 use named;
 
-/// The faults of the calls, raw pins apart.
+/// The faults of the calls, raw pins and batches apart.
 pub const CHIP: &[(&str, &dyn Model)] = named![
     AndDataIntoSlots,
     RunOnPage,

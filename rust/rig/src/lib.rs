@@ -3,6 +3,8 @@
 //! `rust/run` compares; RIG_CALLS, RIG_RUNS and RIG_SEED make the run longer or another one.
 //! `cargo run --release --bin timing` measures.
 
+pub mod batch_generate;
+pub mod batch_model;
 pub mod bench_model;
 pub mod compare;
 pub mod faults;
@@ -23,4 +25,12 @@ pub mod rng;
 pub fn tell(text: &str) {
     use std::io::Write;
     let _ = writeln!(std::io::stderr(), "{text}");
+}
+
+/// The decimal number in an environment variable, or the default without one.
+pub fn number(name: &str, default: u64) -> u64 {
+    match std::env::var(name) {
+        Ok(text) => text.parse().unwrap_or_else(|_| panic!("{name} is a decimal number")),
+        Err(_) => default,
+    }
 }

@@ -6,20 +6,13 @@ use rig::faults;
 use rig::generate::Generator;
 use rig::model::{CODES, PARTS, SMALL};
 use rig::rng::Rng;
-use rig::tell;
+use rig::{number, tell};
 
 const DEFAULT_CALLS: u64 = 1_000_000;
 const DEFAULT_SEED: u64 = 1;
 
 /// Calls of one episode, by part: filling and comparing the large arrays takes its time.
 const EPISODE: [u64; PARTS.len()] = [500, 1_000, 2_000, 5_000, 25_000, 1_000, 2_000];
-
-fn number(name: &str, default: u64) -> u64 {
-    match std::env::var(name) {
-        Ok(text) => text.parse().unwrap_or_else(|_| panic!("{name} is a decimal number")),
-        Err(_) => default,
-    }
-}
 
 #[test]
 fn calls_equal_model() {

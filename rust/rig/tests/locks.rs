@@ -1,12 +1,13 @@
 //! What a lock is worth, on libm25p.a: from a standby record of the M25PE40 with some sectors write-locked and frozen,
-//! random transactions, runs of raw pins and waits, whatever W is, leave each byte of these sectors as it was, and each
-//! frozen register. Power-up and power losses end it.
+//! random transactions, runs of raw pins, batches and waits, whatever W is, leave each byte of these sectors as it was,
+//! and each frozen register. Power-up and power losses end it.
 
 #[allow(dead_code)]
 #[path = "support/tried.rs"]
 mod tried;
 
 use m25p::{Answer, Chip, Durations, Part};
+use rig::batch_generate::BatchGenerator;
 use rig::compare::{Call, Pair, Rules, Source, Step, PAPER};
 use rig::faults;
 use rig::generate::Generator;
@@ -38,7 +39,7 @@ impl Source for Probing {
 
 /// A call, refused ones too, that leaves the power on; no delivery.
 fn with_power(step: &mut Step) -> bool {
-    matches!(step.call, Call::Transact { .. } | Call::Pins { .. } | Call::Wait(_))
+    !matches!(step.call, Call::Deliver { .. } | Call::PowerUp | Call::Loss { .. })
 }
 
 /// Every frozen register stays, and each byte of a sector that is write-locked besides.
@@ -87,6 +88,12 @@ fn a_frozen_lock_keeps_its_sector() {
 fn a_frozen_lock_keeps_it_over_raw_pins() {
     let answers = endure::<Probing, Pair>(PAPER).unwrap_or_else(|e| panic!("{e}"));
     answers.often(M25PE40, &[0, 12, 15, 16, 17, 19]);
+}
+
+#[test]
+fn a_frozen_lock_keeps_it_over_batches() {
+    let answers = endure::<BatchGenerator, Pair>(PAPER).unwrap_or_else(|e| panic!("{e}"));
+    answers.often(M25PE40, &[0, 11, 12, 13, 14, 15, 16, 17, 18, 19]);
 }
 
 /// The same calls notice a chip that gives way.

@@ -8,7 +8,7 @@ use rig::pins_generate::PinsGenerator;
 use rig::pins_model::End;
 use rig::plain_pins;
 use rig::rng::Rng;
-use rig::tell;
+use rig::{number, tell};
 use tools::pins::Ends;
 
 const DEFAULT_RUNS: u64 = 20_000;
@@ -19,13 +19,6 @@ const EPISODE: [u64; PARTS.len()] = [50, 50, 50, 20, 20, 50, 50];
 
 /// How many of a hundred runs go to each part: comparing the large arrays takes its time.
 const SHARE: [u64; PARTS.len()] = [40, 15, 10, 2, 1, 7, 25];
-
-fn number(name: &str, default: u64) -> u64 {
-    match std::env::var(name) {
-        Ok(text) => text.parse().unwrap_or_else(|_| panic!("{name} is a decimal number")),
-        Err(_) => default,
-    }
-}
 
 #[test]
 fn runs_equal_model() {

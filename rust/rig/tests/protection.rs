@@ -1,12 +1,14 @@
 //! What hardware protection is worth (Wish 8), on libm25p.a: from a chip in standby with SRWD set, random
-//! transactions with W low, runs of raw pins with W low as Select rises, waits, power-ups and power losses leave BP,
-//! SRWD and each byte of a protected sector as they were. Which sectors are protected is told by the paper's table. The
+//! transactions with W low, runs of raw pins with W low as Select rises, batches with W low, waits, power-ups and power
+//! losses leave BP, SRWD and each byte of a protected sector as they were. Which sectors are protected is told by the paper's table. The
 //! wish is of the M25P parts; the M25PE40 is tried with them.
 
 #[path = "support/tried.rs"]
 mod tried;
 
 use m25p::{Answer, Chip, Durations, Part};
+use rig::batch_generate::{heads, BatchGenerator};
+use rig::batch_model::WAIT;
 use rig::compare::{Call, Pair, Rules, Source, Step, PAPER};
 use rig::faults;
 use rig::generate::Generator;
@@ -19,15 +21,16 @@ use tried::{endures, Answers, Made, Modelled, Tried};
 /// How many calls go by until a large array is looked at again.
 const INTERVAL: usize = 100;
 
-/// Runs of raw pins, within which no ticks pass: between them a cycle ends or is cut, and so does deep power-down.
-struct Probing {
-    runs: PinsGenerator,
+/// Runs of raw pins, within which no ticks pass, or batches: between them a cycle ends or is cut, and so does deep
+/// power-down.
+struct Between<S> {
+    runs: S,
     rng: Rng,
 }
 
-impl Source for Probing {
-    fn new(part: usize, seed: u64) -> Probing {
-        Probing { runs: PinsGenerator::new(part, seed), rng: Rng::new(seed) }
+impl<S: Source> Source for Between<S> {
+    fn new(part: usize, seed: u64) -> Between<S> {
+        Between { runs: S::new(part, seed), rng: Rng::new(seed) }
     }
 
     fn sound_record(&mut self) -> Record {
@@ -59,12 +62,22 @@ fn low_as_select_rises(samples: &mut [u8]) {
     }
 }
 
+/// W is low in each transaction of a batch.
+fn low_in_each(items: &mut [u8]) {
+    for head in heads(items) {
+        if let Some(flag) = items.get_mut(head + 2).filter(|flag| **flag < WAIT) {
+            *flag &= !1;
+        }
+    }
+}
+
 /// A call, refused ones too, with W low; no delivery.
 fn with_w_low(step: &mut Step) -> bool {
     match &mut step.call {
         Call::Deliver { .. } => return false,
         Call::Transact { w, .. } => *w = 0,
         Call::Pins { samples } => low_as_select_rises(samples),
+        Call::Batch { items } => low_in_each(items),
         Call::Wait(_) | Call::PowerUp | Call::Loss { .. } => {}
     }
     true
@@ -126,7 +139,14 @@ fn w_low_keeps_what_is_protected() {
 #[test]
 fn w_low_keeps_it_over_raw_pins() {
     for part in SMALL {
-        library_keeps::<Probing>(part, &[0, 12, 16, 17, 18]);
+        library_keeps::<Between<PinsGenerator>>(part, &[0, 12, 16, 17, 18]);
+    }
+}
+
+#[test]
+fn w_low_keeps_it_over_batches() {
+    for part in SMALL {
+        library_keeps::<Between<BatchGenerator>>(part, &[0, 12, 16, 17, 18]);
     }
 }
 

@@ -1,5 +1,6 @@
 //! What came up in a comparison, so that a test can see that nothing was left out.
 
+use super::batches::Batches;
 use super::ends::Ends;
 use super::locks::Locks;
 use super::{Call, Seen, Step};
@@ -9,8 +10,8 @@ use crate::pins_model::{End, HOLD, NOT_DRIVEN};
 /// Counts by number.
 pub type Counts = [u64; 256];
 
-/// How often each answer came, each instruction was executed, how cycles ended, what lock registers did, and what raw
-/// pins did.
+/// How often each answer came, each instruction was executed, how cycles ended, and what lock registers, raw pins and
+/// batches did.
 pub struct Tally {
     pub calls: u64,
     pub answers: Counts,
@@ -20,6 +21,7 @@ pub struct Tally {
     pub ends: Ends,
     pub locks: Locks,
     pub pins: PinsTally,
+    pub batches: Batches,
 }
 
 /// Programs executed, singly and in runs: those with bits missing, among them those of a kind, and those with
@@ -70,7 +72,8 @@ impl Default for Tally {
             long_held,
         };
         let (programs, ends, locks) = (Programs::default(), Ends::default(), Locks::default());
-        Tally { calls: 0, answers: [0; 256], executed, programs, ends, locks, pins }
+        let (answers, batches) = ([0; 256], Batches::default());
+        Tally { calls: 0, answers, executed, programs, ends, locks, pins, batches }
     }
 }
 
@@ -99,6 +102,10 @@ impl Tally {
 
     /// All counts in a line.
     pub fn show(&self) -> String {
+        let (calls, answers) = (self.calls, listed(&self.answers));
+        if self.batches.transactions > 0 {
+            return format!("{calls} calls; answers {answers}; {}", self.batches.show());
+        }
         let rest = match self.pins.samples {
             0 => {
                 let (codes, ends, locks) =
@@ -107,7 +114,6 @@ impl Tally {
             }
             _ => self.pins.show(),
         };
-        let (calls, answers) = (self.calls, listed(&self.answers));
         format!("{calls} calls; answers {answers}; {rest}; {}", self.programs.show())
     }
 }
@@ -201,11 +207,12 @@ fn executed(seen: &Seen) -> impl Iterator<Item = (Vec<u8>, u32)> + '_ {
 }
 
 /// How often each instruction came.
-fn codes(counts: &Counts) -> String {
+pub fn codes(counts: &Counts) -> String {
     CODES.map(|code| format!("{code:02X}: {}", counts[code as usize])).join(", ")
 }
 
-fn listed(counts: &Counts) -> String {
+/// The numbers that came, each with how often.
+pub fn listed(counts: &Counts) -> String {
     let shown = (0..256).filter(|i| counts[*i] > 0);
     let shown: Vec<String> = shown.map(|i| format!("{i}: {}", counts[i])).collect();
     shown.join(", ")

@@ -1,7 +1,8 @@
 //! Steps of one's own choice on a chip of libm25p.a and on the model; a difference ends the test.
 
+use rig::batch_model::BatchModel;
 use rig::compare::{Call, Filled, Pair, Seen, Step, Tally, PAPER, SPARE};
-use rig::model::{Packed, Record, PARTS, RECORD_BYTES};
+use rig::model::{Packed, Paper, Record, PARTS, RECORD_BYTES};
 use rig::rng::Rng;
 
 /// A chip of a part, and the steps made on it.
@@ -35,12 +36,23 @@ impl Sweep {
         array_len: usize,
     ) -> Seen {
         let filled = match &call {
-            Call::Transact { sent: given, .. } | Call::Pins { samples: given } => {
-                let (bytes, len) = (self.rng.bytes(given.len() + SPARE), given.len());
-                vec![Filled { bytes, len }]
-            }
+            Call::Transact { sent: given, .. } | Call::Pins { samples: given } => vec![given.len()],
+            Call::Batch { items } => Paper.room(&Paper.day(items).items).to_vec(),
             _ => vec![],
         };
+        self.call_filling(record, call, [record_len, array_len], &filled)
+    }
+
+    /// A call with these lengths of record and array, and of the buffers that it fills.
+    pub fn call_filling(
+        &mut self,
+        record: Option<Packed>,
+        call: Call,
+        [record_len, array_len]: [usize; 2],
+        filled: &[usize],
+    ) -> Seen {
+        let random = |len: &usize| Filled { bytes: self.rng.bytes(len + SPARE), len: *len };
+        let filled = filled.iter().map(random).collect();
         let step = Step { call, record, record_len, array_len, filled };
         self.pair.step(&step, &mut self.tally).unwrap_or_else(|difference| panic!("{difference}"))
     }
