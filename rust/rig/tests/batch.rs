@@ -1,0 +1,188 @@
+//! m25p_batch against the model, over all seven parts, and against the single calls. RIG_RUNS and RIG_SEED make it longer
+//! or another.
+
+use m25p::calls;
+use rig::batch_generate::BatchGenerator;
+use rig::batch_model::{written, Item};
+use rig::compare::{episode, Pair, Rules, Seen, Side, Source, Step, Tally, PAPER};
+use rig::faults;
+use rig::model::{CODES, PARTS, RECORD_BYTES, SMALL};
+use rig::rng::Rng;
+use rig::{number, tell};
+
+const DEFAULT_RUNS: u64 = 40_000;
+const DEFAULT_SEED: u64 = 1;
+
+/// Batches of one episode, by part.
+const EPISODE: [u64; PARTS.len()] = [50, 50, 50, 20, 20, 50, 50];
+
+/// How many of a hundred batches go to each part: comparing the large arrays takes its time.
+const SHARE: [u64; PARTS.len()] = [45, 12, 8, 1, 1, 8, 25];
+
+#[test]
+fn batches_equal_model() {
+    let runs = number("RIG_RUNS", DEFAULT_RUNS);
+    let seed = number("RIG_SEED", DEFAULT_SEED);
+    tell(&format!("batch: seed {seed}, at least {runs} batches"));
+    let mut seeds = Rng::new(seed);
+    let mut tally = Tally::default();
+    let mut end = 0;
+    for (part, length) in EPISODE.into_iter().enumerate() {
+        end += runs * SHARE[part] / 100;
+        while tally.calls < end {
+            let seed = seeds.draw();
+            episode::<BatchGenerator>(part, length, seed, PAPER, &mut tally)
+                .unwrap_or_else(|difference| panic!("{difference}"));
+        }
+    }
+    tell(&format!("batch: {}", tally.show()));
+    for answer in [0, 2, 6, 8, 9, 10] {
+        assert!(tally.answers[answer] >= 20, "answer {answer} came too seldom");
+    }
+    for answer in [0, 11, 12, 13, 14, 15, 16, 17, 18, 19] {
+        assert!(tally.batches.chip[answer] >= 20, "the chip's number {answer} came too seldom");
+    }
+    for code in CODES {
+        let times = tally.batches.executed[code as usize];
+        assert!(times >= 20, "instruction {code:02X} was executed {times} times only");
+    }
+    assert_eq!(tally.batches.seldom(20), [""; 0], "what batches did too seldom");
+    let waits = tally.batches.ends.seldom_waited(20, &PARTS[6]);
+    assert_eq!(waits, [""; 0], "what became of cycles too seldom");
+}
+
+/// With a fault in the model the same comparison finds a difference, each time.
+#[test]
+fn faults_are_seen() {
+    for (name, fault) in faults::BATCH {
+        let rules = Rules { batch: *fault, ..PAPER };
+        let mut seeds = Rng::new(DEFAULT_SEED);
+        let mut tally = Tally::default();
+        let mut differs = |seed| episode::<BatchGenerator>(0, 50, seed, rules, &mut tally).is_err();
+        let seen = (0..200).any(|_| differs(seeds.draw()));
+        assert!(seen, "{name} was not seen in {} batches", tally.calls);
+    }
+}
+
+/// A batch on a chip: the step, the chip before it with what the step brings, the same after it, and what the model saw.
+struct Batch<'a> {
+    step: &'a Step,
+    before: Side,
+    after: Side,
+    seen: Seen,
+}
+
+/// Random batches on chips of the small parts.
+fn each_batch(count: u64, mut look: impl FnMut(Batch)) {
+    let mut seeds = Rng::new(number("RIG_SEED", DEFAULT_SEED));
+    for part in SMALL {
+        let mut generator = BatchGenerator::new(part, seeds.draw());
+        let mut rng = Rng::new(seeds.draw());
+        let mut pair = Pair::new(generator.sound_record(), PAPER, &mut rng);
+        for _ in 0..count {
+            let step = generator.step(&pair.record());
+            let mut before = pair.real.clone();
+            before.prepare(&step);
+            let mut after = before.clone();
+            let word = after.call(&step);
+            let seen = pair.step(&step, &mut Tally::default()).unwrap();
+            assert_eq!(word, seen.word());
+            look(Batch { step: &step, before, after, seen });
+        }
+    }
+}
+
+/// Whether all bytes of the two are the same.
+fn equal(one: &Side, other: &Side) -> bool {
+    one.record == other.record && one.array == other.array && one.filled == other.filled
+}
+
+/// The item given singly, with a response of its own length: answer number, bits missing and response.
+fn singly(item: &Item, record: &mut [u8], array: &mut [u8]) -> (u8, u64, Vec<u8>) {
+    match item {
+        Item::Transaction { sent, pulses, w } => {
+            let mut response = vec![0; sent.len()];
+            let reply = calls::transact(record, array, sent, *pulses, *w, &mut response);
+            (reply.bits() as u8, u64::from(reply.missing()), response)
+        }
+        Item::Wait { ticks } => (calls::wait(record, array, *ticks).bits() as u8, 0, vec![]),
+    }
+}
+
+/// What a batch leaves is what its items leave, given singly in order; behind that the buffers stay.
+#[test]
+fn equals_single_calls() {
+    let mut compared = 0;
+    each_batch(1_000, |batch| {
+        if batch.seen.answer() != 0 {
+            return;
+        }
+        let Batch { mut before, after, step, seen } = batch;
+        let (mut responses, mut answers, mut missing) = (0, 0, 0);
+        for item in &seen.day.items {
+            let array = &mut before.array[..step.array_len];
+            let (answer, bits, response) = singly(item, &mut before.record[..RECORD_BYTES], array);
+            before.filled[0][responses..][..response.len()].copy_from_slice(&response);
+            before.filled[1][answers] = answer;
+            (responses, answers, missing) =
+                (responses + response.len(), answers + 1, missing + bits);
+            compared += 1;
+        }
+        before.filled[2][..8].copy_from_slice(&u64::to_le_bytes(missing));
+        assert!(equal(&before, &after));
+    });
+    tell(&format!("batch: {compared} items equal single calls"));
+    assert!(compared > 10_000);
+}
+
+/// A refused batch leaves every byte as it was.
+#[test]
+fn refused_changes_nothing() {
+    let mut refused = [0; 11];
+    each_batch(1_000, |Batch { before, after, seen, .. }| {
+        assert!(seen.answer() == 0 || equal(&before, &after));
+        refused[seen.answer() as usize] += 1;
+    });
+    tell(&format!(
+        "batch: refused with 2, 6, 8, 9, 10: {:?}",
+        [2, 6, 8, 9, 10].map(|n| refused[n])
+    ));
+    assert!([2, 6, 8, 9, 10].into_iter().all(|number| refused[number] >= 20));
+}
+
+/// A batch on a side, with buffers just long enough that are filled with a byte; what it answers and leaves in them.
+fn run(side: &mut Side, array_len: usize, items: &[Item], filling: u8) -> (u64, [Vec<u8>; 3]) {
+    let responses = items.iter().map(|item| item.transaction().map_or(0, |t| t.sent.len())).sum();
+    let [mut responses, mut answers, mut missing] =
+        [responses, items.len(), 8].map(|n| vec![filling; n]);
+    let (record, array) = (&mut side.record[..RECORD_BYTES], &mut side.array[..array_len]);
+    let reply =
+        calls::batch(record, array, &written(items), &mut responses, &mut answers, &mut missing);
+    (reply.bits(), [responses, answers, missing])
+}
+
+/// Two batches one after the other leave what the batch of the appended bytes leaves.
+#[test]
+fn two_batches_are_one() {
+    let mut rng = Rng::new(DEFAULT_SEED);
+    let mut parted = 0;
+    each_batch(1_000, |Batch { before, step, seen, .. }| {
+        let items = &seen.day.items;
+        if seen.answer() != 0 || items.is_empty() {
+            return;
+        }
+        let (mut whole, mut twice) = (before.clone(), before);
+        let (first, then) = items.split_at(rng.below(items.len() + 1));
+        let (word, [responses, answers, missing]) = run(&mut whole, step.array_len, items, 0x11);
+        let of_first = run(&mut twice, step.array_len, first, 0x22);
+        let of_then = run(&mut twice, step.array_len, then, 0x33);
+        assert_eq!([word, of_first.0, of_then.0], [0; 3]);
+        assert!(whole.record == twice.record && whole.array == twice.array);
+        assert_eq!([&of_first.1[0][..], &of_then.1[0]].concat(), responses);
+        assert_eq!([&of_first.1[1][..], &of_then.1[1]].concat(), answers);
+        let sum = |bytes: &[u8]| u64::from_le_bytes(bytes.try_into().unwrap());
+        assert_eq!(sum(&of_first.1[2]).wrapping_add(sum(&of_then.1[2])), sum(&missing));
+        parted += 1;
+    });
+    assert!(parted > 1_000);
+}
