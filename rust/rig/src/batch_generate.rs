@@ -159,7 +159,7 @@ impl BatchGenerator {
     }
 }
 
-/// Where the items of a good batch begin, and where it ends.
+/// Where each item of these bytes begins, and where the next one would.
 pub fn heads(bytes: &[u8]) -> Vec<usize> {
     let mut heads = vec![0];
     for item in Paper.day(bytes).items {

@@ -1,5 +1,5 @@
-//! m25p_batch against the model, over all seven parts, and against the single calls. RIG_RUNS and RIG_SEED make it longer
-//! or another.
+//! m25p_batch against the model, over all seven parts, and against the single calls. RIG_RUNS and RIG_SEED make it
+//! longer or another.
 
 use m25p::calls;
 use rig::batch_generate::BatchGenerator;
@@ -64,7 +64,8 @@ fn faults_are_seen() {
     }
 }
 
-/// A batch on a chip: the step, the chip before it with what the step brings, the same after it, and what the model saw.
+/// A batch on a chip: the step, the chip before it with what the step brings, the same after it, and what the model
+/// saw.
 struct Batch<'a> {
     step: &'a Step,
     before: Side,
@@ -118,15 +119,14 @@ fn equals_single_calls() {
             return;
         }
         let Batch { mut before, after, step, seen } = batch;
-        let (mut responses, mut answers, mut missing) = (0, 0, 0);
-        for item in &seen.day.items {
+        let (mut responses, mut missing) = (0, 0);
+        for (item, at) in seen.day.items.iter().zip(0..) {
             let array = &mut before.array[..step.array_len];
             let (answer, bits, response) = singly(item, &mut before.record[..RECORD_BYTES], array);
             before.filled[0][responses..][..response.len()].copy_from_slice(&response);
-            before.filled[1][answers] = answer;
-            (responses, answers, missing) =
-                (responses + response.len(), answers + 1, missing + bits);
-            compared += 1;
+            before.filled[1][at] = answer;
+            (responses, missing, compared) =
+                (responses + response.len(), missing + bits, compared + 1);
         }
         before.filled[2][..8].copy_from_slice(&u64::to_le_bytes(missing));
         assert!(equal(&before, &after));
@@ -138,16 +138,14 @@ fn equals_single_calls() {
 /// A refused batch leaves every byte as it was.
 #[test]
 fn refused_changes_nothing() {
-    let mut refused = [0; 11];
+    let mut answers = [0; 11];
     each_batch(1_000, |Batch { before, after, seen, .. }| {
         assert!(seen.answer() == 0 || equal(&before, &after));
-        refused[seen.answer() as usize] += 1;
+        answers[seen.answer() as usize] += 1;
     });
-    tell(&format!(
-        "batch: refused with 2, 6, 8, 9, 10: {:?}",
-        [2, 6, 8, 9, 10].map(|n| refused[n])
-    ));
-    assert!([2, 6, 8, 9, 10].into_iter().all(|number| refused[number] >= 20));
+    let refused = [2, 6, 8, 9, 10].map(|number| answers[number]);
+    tell(&format!("batch: nothing changed with 2, 6, 8, 9, 10: {refused:?}"));
+    assert!(refused.into_iter().all(|times| times >= 20));
 }
 
 /// A batch on a side, with buffers just long enough that are filled with a byte; what it answers and leaves in them.

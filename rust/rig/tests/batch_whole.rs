@@ -1,14 +1,15 @@
-//! m25p_batch against the model on whole ranges: every flag byte, every cut, every length of a buffer, every length of a
-//! wait, the longest items, every tick of a cycle, and sums of the bits missing.
+//! m25p_batch against the model on whole ranges: every flag byte, every cut, every length of a buffer, every length of
+//! a wait, the longest items and batches, every tick of a cycle, and sums of the bits missing.
 
 #[path = "support/sweep.rs"]
 mod swept;
 
-use rig::batch_generate::heads;
 use rig::batch_model::{written, BatchModel, Item, MOST_BYTES, WAIT};
 use rig::compare::Call;
 use rig::model::{Cycle, Mode, Packed, Paper, Record, BE, PAGE, PARTS, RECORD_BYTES, SMALL};
-use rig::model::{DP, FAST_READ, PE, PP, PW, RDID, RDSR, READ, RES, SE, SSE, WREN, WRLR, WRSR};
+use rig::model::{
+    DP, FAST_READ, PE, PP, PW, RDID, RDSR, READ, RES, SE, SSE, WRDI, WREN, WRLR, WRSR,
+};
 use swept::{addressed, Sweep};
 
 /// A transaction with W high and without further pulses.
@@ -113,14 +114,13 @@ fn day(part: u8) -> Vec<Item> {
 fn every_cut() {
     for part in SMALL.map(|part| part as u8) {
         let mut sweep = Sweep::new(part);
-        let items = written(&day(part));
-        let heads = heads(&items);
+        let day = day(part);
+        let (items, from) = (written(&day), Record::standby(part).pack());
+        let ends: Vec<usize> = (0..=day.len()).map(|n| written(&day[..n]).len()).collect();
         for end in 0..=items.len() {
-            let number = if heads.contains(&end) { 0 } else { 9 };
-            let cut = &items[..end];
-            assert_eq!(answer(&mut sweep, Record::standby(part).pack(), cut), number, "{end}");
+            let number = if ends.contains(&end) { 0 } else { 9 };
+            assert_eq!(answer(&mut sweep, from, &items[..end]), number, "{end}");
         }
-        assert_eq!(sweep.tally.answers[0], day(part).len() as u64 + 1);
         sweep.pair.compare_array().unwrap();
     }
 }
@@ -154,8 +154,8 @@ fn every_length_of_a_buffer() {
     }
 }
 
-/// Waits of every length up to 300, and of every length with a 4 in its low byte: with all their bytes, with four alone,
-/// and with others behind them.
+/// Waits of every length up to 300, and of every length with a 4 in its low byte: with all their bytes, with four
+/// alone, and with others behind them.
 #[test]
 fn every_length_of_a_wait() {
     let mut sweep = Sweep::new(0);
@@ -190,12 +190,9 @@ fn long_items() {
             assert_eq!(answer(&mut sweep, from, &[&behind[..], &whole].concat()), 0);
             assert_eq!(answer(&mut sweep, from, &whole[..whole.len() - 1]), 9);
             assert_eq!(answer(&mut sweep, from, &[&behind[..], &whole[..3]].concat()), 9);
-            let more = item(
-                1,
-                (length + 1).min(MOST_BYTES),
-                &body[..length - usize::from(length == MOST_BYTES)],
-            );
-            assert_eq!(answer(&mut sweep, from, &more), 9);
+            if length < MOST_BYTES {
+                assert_eq!(answer(&mut sweep, from, &item(1, length + 1, &body)), 9);
+            }
         }
     }
     assert!(sweep.tally.batches.executed[PP as usize] >= 20);
@@ -210,43 +207,58 @@ fn starts(part: u8) -> Vec<Vec<u8>> {
     old.into_iter().chain(new).take(PARTS[part as usize].kinds()).collect()
 }
 
-/// Every kind of cycle, of 1, 2, 3, 5 and 70,000 ticks, started in a batch or before it: a wait of each number of ticks
-/// around its last one, then tick by tick, with a look at status and array each time.
+/// A cycle, started in a batch and then before one: a wait first, then others tick by tick and beyond its end, with a
+/// look at status and array behind each.
+fn cycle(sweep: &mut Sweep, from: Record, start: &[u8], first: u32) {
+    let middle = from.figures().bytes / 2;
+    let contents = sweep.rng.bytes(2 * PAGE);
+    sweep.put(middle + PAGE, &contents);
+    let look = [sent(&[RDSR, 0]), sent(&addressed(READ, middle + 299, &[0; 11]))];
+    let mut items = vec![sent(start), look[0].clone()];
+    for ticks in [first, 1, 0, 1, u32::MAX] {
+        items.push(wait(ticks));
+        items.extend(look.clone());
+    }
+    assert_eq!(answer(sweep, from.pack(), &written(&items)), 0);
+    assert_eq!(sweep.pair.record().cycle(), None);
+    let start = Call::Transact { sent: start.to_vec(), pulses: 0, w: 1 };
+    assert_eq!(sweep.call(Some(from.pack()), start).answer(), 0);
+    let running = sweep.pair.record().pack();
+    assert_eq!(answer(sweep, running, &written(&items[1..])), 0);
+}
+
+/// Every kind of cycle, of 1, 2, 3, 5 and 70,000 ticks, and a first wait around its beginning and its end.
 #[test]
 fn every_tick() {
     for part in SMALL.map(|part| part as u8) {
         let mut sweep = Sweep::new(part);
-        let look = [
-            sent(&[RDSR, 0]),
-            sent(&addressed(READ, PARTS[part as usize].bytes / 2 + 299, &[0; 11])),
-        ];
-        for (start, duration) in
-            starts(part).iter().flat_map(|start| [1, 2, 3, 5, 70_000].map(|ticks| (start, ticks)))
-        {
-            let from = Record { latch: true, ..Record::standby(part).lasting([duration; 4]) };
-            for first in [0, 1, duration - 1, duration, duration + 1, u32::MAX] {
-                let contents = sweep.rng.bytes(2 * PAGE);
-                sweep.put(PARTS[part as usize].bytes / 2 + PAGE, &contents);
-                let waits = [first, 1, 0, 1, u32::MAX].map(wait);
-                let looked: Vec<Item> = waits
-                    .into_iter()
-                    .flat_map(|wait| [wait, look[0].clone(), look[1].clone()])
-                    .collect();
-                let begun = [sent(start), look[0].clone()];
-                let whole = written(&[&begun[..], &looked[..]].concat());
-                assert_eq!(answer(&mut sweep, from.pack(), &whole), 0);
-                assert_eq!(sweep.pair.record().cycle(), None);
-                sweep.call(
-                    Some(from.pack()),
-                    Call::Transact { sent: start.clone(), pulses: 0, w: 1 },
-                );
-                let running = sweep.pair.record().pack();
-                assert_eq!(answer(&mut sweep, running, &written(&looked)), 0);
+        for start in starts(part) {
+            for duration in [1, 2, 3, 5, 70_000] {
+                let from = Record { latch: true, ..Record::standby(part).lasting([duration; 4]) };
+                for first in [0, 1, duration - 1, duration, duration + 1, u32::MAX] {
+                    cycle(&mut sweep, from, &start, first);
+                }
             }
         }
         assert_eq!(sweep.tally.batches.ends.seldom_waited(10, &PARTS[part as usize]), [""; 0]);
         sweep.pair.compare_array().unwrap();
     }
+}
+
+/// More than 65,536 items, and more than 65,536 response bytes: all are carried out, and the last one may be bad.
+#[test]
+fn long_batches() {
+    let mut sweep = Sweep::new(0);
+    let from = Record::standby(0).pack();
+    let some = [sent(&[]), sent(&[WREN]), wait(1), sent(&[RDSR, 0]), wait(0), sent(&[WRDI])];
+    let many = written(&some).repeat(12_000);
+    let long = written(&[sent(&addressed(READ, 0x123, &[0; 60_000])), wait(7)]).repeat(10);
+    for items in [many, long] {
+        assert_eq!(answer(&mut sweep, from, &items), 0);
+        assert_eq!(answer(&mut sweep, from, &items[..items.len() - 1]), 9);
+        assert_eq!(answer(&mut sweep, from, &[&items[..], &[0, 0, 17]].concat()), 9);
+    }
+    assert_eq!((sweep.tally.batches.transactions, sweep.tally.batches.waits), (48_010, 24_010));
 }
 
 /// A page of zeros is programmed with ones up to 40 times in a batch: 2,048 bits missing each time, and all are told.

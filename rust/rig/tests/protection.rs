@@ -1,7 +1,7 @@
 //! What hardware protection is worth (Wish 8), on libm25p.a: from a chip in standby with SRWD set, random
 //! transactions with W low, runs of raw pins with W low as Select rises, batches with W low, waits, power-ups and power
-//! losses leave BP, SRWD and each byte of a protected sector as they were. Which sectors are protected is told by the paper's table. The
-//! wish is of the M25P parts; the M25PE40 is tried with them.
+//! losses leave BP, SRWD and each byte of a protected sector as they were. Which sectors are protected is told by the
+//! paper's table. The wish is of the M25P parts; the M25PE40 is tried with them.
 
 #[path = "support/tried.rs"]
 mod tried;

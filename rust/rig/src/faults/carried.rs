@@ -51,18 +51,17 @@ impl BatchModel for StopsAtTheFirstIgnored {
     }
 }
 
-/// The chip as it was before the batch, and as it is.
-pub struct Chips<'a> {
-    before: (Vec<u8>, Vec<u8>),
+/// What an item is carried out on and what it fills, and record and array from before the batch.
+pub struct Place<'a> {
     record: &'a mut [u8],
     array: &'a mut [u8],
+    response: &'a mut [u8],
+    answer: &'a mut u8,
+    before: (&'a [u8], &'a mut [u8]),
 }
 
-/// What an item is carried out on, and what it fills.
-pub type Carried = fn(&Item, &mut Chips, &mut [u8], &mut u8) -> model::Outcome;
-
-/// Each item is carried out otherwise, with its response and its answer byte.
-pub struct Carries(pub Carried);
+/// Each item is carried out otherwise.
+pub struct Carries(pub fn(&Item, &mut Place) -> model::Outcome);
 
 impl BatchModel for Carries {
     fn carry_out_all(
@@ -72,81 +71,57 @@ impl BatchModel for Carries {
         array: &mut [u8],
         buffers: &mut Buffers,
     ) -> Vec<model::Outcome> {
-        let mut chips = Chips { before: (record.to_vec(), array.to_vec()), record, array };
-        let (mut rest, mut chip) = (&mut buffers.responses[..], Vec::new());
+        let (record_before, mut array_before) = (record.to_vec(), array.to_vec());
+        let (mut responses, mut chip) = (0, Vec::new());
         for (item, answer) in items.iter().zip(buffers.answers.iter_mut()) {
-            let (response, behind) = rest.split_at_mut(own(item));
-            chip.push(self.0(item, &mut chips, response, answer));
-            rest = behind;
+            let response = &mut buffers.responses[responses..][..own(item)];
+            responses += own(item);
+            let before = (&record_before[..], &mut array_before[..]);
+            chip.push(self.0(item, &mut Place { record, array, response, answer, before }));
         }
         chip
     }
 }
 
+/// As the paper has it.
+fn carried_out(item: &Item, place: &mut Place) -> model::Outcome {
+    let outcome = Paper.carry_out(item, place.record, place.array, place.response);
+    *place.answer = outcome.answer;
+    outcome
+}
+
 /// Each item meets the record from before the batch.
-pub fn record_from_before(
-    item: &Item,
-    chips: &mut Chips,
-    response: &mut [u8],
-    answer: &mut u8,
-) -> model::Outcome {
-    chips.record.copy_from_slice(&chips.before.0);
-    as_the_paper(item, chips, response, answer)
+pub fn record_from_before(item: &Item, place: &mut Place) -> model::Outcome {
+    place.record.copy_from_slice(place.before.0);
+    carried_out(item, place)
 }
 
 /// Transactions meet the array from before the batch.
-pub fn array_from_before(
-    item: &Item,
-    chips: &mut Chips,
-    response: &mut [u8],
-    answer: &mut u8,
-) -> model::Outcome {
-    if item.transaction().is_none() {
-        return as_the_paper(item, chips, response, answer);
+pub fn array_from_before(item: &Item, place: &mut Place) -> model::Outcome {
+    if wait(item) == 1 {
+        return carried_out(item, place);
     }
-    let outcome = Paper.carry_out(item, chips.record, &mut chips.before.1, response);
-    *answer = outcome.answer;
+    let outcome = Paper.carry_out(item, place.record, place.before.1, place.response);
+    *place.answer = outcome.answer;
     outcome
 }
 
 /// The response to a transaction that is ignored is not written.
-pub fn responses_kept_where_ignored(
-    item: &Item,
-    chips: &mut Chips,
-    response: &mut [u8],
-    answer: &mut u8,
-) -> model::Outcome {
-    let kept = response.to_vec();
-    let outcome = as_the_paper(item, chips, response, answer);
+pub fn responses_kept_where_ignored(item: &Item, place: &mut Place) -> model::Outcome {
+    let kept = place.response.to_vec();
+    let outcome = carried_out(item, place);
     if outcome.answer != 0 {
-        response.copy_from_slice(&kept);
+        place.response.copy_from_slice(&kept);
     }
     outcome
 }
 
 /// The answer byte of a wait is not written.
-pub fn answers_of_waits_kept(
-    item: &Item,
-    chips: &mut Chips,
-    response: &mut [u8],
-    answer: &mut u8,
-) -> model::Outcome {
-    let kept = *answer;
-    let outcome = as_the_paper(item, chips, response, answer);
-    if item.transaction().is_none() {
-        *answer = kept;
+pub fn answers_of_waits_kept(item: &Item, place: &mut Place) -> model::Outcome {
+    let kept = *place.answer;
+    let outcome = carried_out(item, place);
+    if wait(item) == 1 {
+        *place.answer = kept;
     }
-    outcome
-}
-
-/// The item is carried out, and its answer byte is written.
-fn as_the_paper(
-    item: &Item,
-    chips: &mut Chips,
-    response: &mut [u8],
-    answer: &mut u8,
-) -> model::Outcome {
-    let outcome = Paper.carry_out(item, chips.record, chips.array, response);
-    *answer = outcome.answer;
     outcome
 }
