@@ -52,8 +52,8 @@ impl BatchGenerator {
     /// The items of a day that begins with this record.
     pub fn day(&mut self, from: Record) -> Vec<Item> {
         match self.rng.below(80) {
-            0 => return self.rewrites(from),
-            1 => return self.long(from),
+            0 | 1 => return self.rewrites(from),
+            2 => return self.long(from),
             _ => {}
         }
         let count = self.rng.pick(&[0, 1, 1, 2, 3, 5, 8, 13, 21]);
@@ -86,13 +86,16 @@ impl BatchGenerator {
         }
     }
 
-    /// The same page programmed again and again, without an erase: zeros first, then ones mostly.
+    /// The same page programmed again and again, without an erase: zeros first, then ones mostly. It lies in sector 0
+    /// mostly, which is seldom protected.
     fn rewrites(&mut self, from: Record) -> Vec<Item> {
-        let page = self.rng.below(from.figures().bytes / PAGE) * PAGE;
         let all = |sent| Item::Transaction { sent, pulses: 0, w: 1 };
-        let mut items = vec![Item::Wait { ticks: u32::MAX }];
-        for k in 0..self.rng.pick(&[2, 3, 5, 40, 60]) {
-            let data = self.rng.pick(&[0xFF, 0xFF, 0xFF, 0xFE]);
+        let part = from.figures();
+        let within = self.rng.pick(&[part.sector_bytes, part.sector_bytes, part.bytes]);
+        let page = self.rng.below(within / PAGE) * PAGE;
+        let mut items = vec![Item::Wait { ticks: u32::MAX }, all(vec![RES])];
+        for k in 0..self.rng.pick(&[2, 3, 5, 8, 40]) {
+            let data = self.rng.pick(&[0xFF, 0xFF, 0xFF, 0xA5]);
             let mut sent = vec![PP, (page >> 16) as u8, (page >> 8) as u8, 0];
             sent.resize(4 + PAGE, if k == 0 { 0x00 } else { data });
             items.extend([all(vec![WREN]), all(sent), Item::Wait { ticks: u32::MAX }]);
