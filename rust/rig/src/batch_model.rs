@@ -67,6 +67,9 @@ pub enum Bad {
     Wait,
 }
 
+/// The first item of some bytes and how many of them are its own, or what is wrong with it.
+pub type Read = Result<(Item, usize), Bad>;
+
 /// What the bytes of a batch are: items, and behind them perhaps a bad one, with the place where it begins.
 #[derive(Clone, Debug, Default, PartialEq, Eq)]
 pub struct Day {
@@ -126,8 +129,8 @@ pub trait BatchModel: Sync {
         day
     }
 
-    /// The first item of these bytes, which are at least one, and how many of them are its own.
-    fn item(&self, bytes: &[u8]) -> Result<(Item, usize), Bad> {
+    /// The first item of these bytes, which are at least one.
+    fn item(&self, bytes: &[u8]) -> Read {
         if bytes.len() < HEAD {
             return Err(Bad::Head);
         }

@@ -15,16 +15,16 @@ impl BatchModel for EndsAt {
 }
 
 /// An item is read otherwise.
-pub struct Reads(pub fn(&[u8]) -> Result<(Item, usize), Bad>);
+pub struct Reads(pub fn(&[u8]) -> Read);
 
 impl BatchModel for Reads {
-    fn item(&self, bytes: &[u8]) -> Result<(Item, usize), Bad> {
+    fn item(&self, bytes: &[u8]) -> Read {
         self.0(bytes)
     }
 }
 
 /// A transaction whose bytes end too early is one of the bytes that are there.
-pub fn cut_body_taken(bytes: &[u8]) -> Result<(Item, usize), Bad> {
+pub fn cut_body_taken(bytes: &[u8]) -> Read {
     match Paper.item(bytes) {
         Err(Bad::Body) => Ok((Paper.meant(bytes[2], &bytes[HEAD..])?, bytes.len())),
         read => read,
@@ -32,7 +32,7 @@ pub fn cut_body_taken(bytes: &[u8]) -> Result<(Item, usize), Bad> {
 }
 
 /// A length of the most bytes is refused.
-pub fn longest_refused(bytes: &[u8]) -> Result<(Item, usize), Bad> {
+pub fn longest_refused(bytes: &[u8]) -> Read {
     Paper.item(bytes).and_then(|read| match read.1 - HEAD {
         MOST_BYTES => Err(Bad::Body),
         _ => Ok(read),
@@ -40,7 +40,7 @@ pub fn longest_refused(bytes: &[u8]) -> Result<(Item, usize), Bad> {
 }
 
 /// A wait is of length 4 by the low byte alone; its ticks are the first four bytes.
-pub fn wait_by_its_low_byte(bytes: &[u8]) -> Result<(Item, usize), Bad> {
+pub fn wait_by_its_low_byte(bytes: &[u8]) -> Read {
     match Paper.item(bytes) {
         Err(Bad::Wait) if usize::from(bytes[0]) == WAIT_BYTES => {
             let item = Item::Wait { ticks: Paper.ticks(&bytes[HEAD..][..WAIT_BYTES]) };
@@ -51,7 +51,7 @@ pub fn wait_by_its_low_byte(bytes: &[u8]) -> Result<(Item, usize), Bad> {
 }
 
 /// A wait has four bytes whatever its length says.
-pub fn wait_without_length(bytes: &[u8]) -> Result<(Item, usize), Bad> {
+pub fn wait_without_length(bytes: &[u8]) -> Read {
     match Paper.item(bytes) {
         Err(Bad::Wait) if bytes.len() >= HEAD + WAIT_BYTES => {
             let item = Item::Wait { ticks: Paper.ticks(&bytes[HEAD..][..WAIT_BYTES]) };
