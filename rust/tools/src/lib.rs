@@ -1,5 +1,6 @@
 //! Commands over the crate `m25p`: `pins` carries out a probe's file, and `serprog` is a chip for flashrom.
 
+pub mod command;
 pub mod pins;
 pub mod replace;
 pub mod rng;

@@ -7,31 +7,30 @@ pub use ends::Ends;
 pub use options::{Options, USAGE};
 
 use std::ffi::OsString;
-use std::path::{Path, PathBuf};
+use std::path::Path;
 
 use m25p::pins::NOT_DRIVEN;
 use m25p::{Answer, Chip, Part, Run};
 
-use crate::replace::write_result;
+use crate::command::{read, refusal, write};
 use crate::vcd::{self, Undriven};
 
 /// Carries out what the words ask for and writes the results: a report, or a sentence that says why not.
 pub fn carry_out(words: impl IntoIterator<Item = OsString>) -> Result<String, String> {
     let options = Options::parse(words)?;
-    let unread = |e| format!("{} cannot be read: {e}.", options.file.display());
-    let samples = std::fs::read(&options.file).map_err(unread)?;
+    let samples = read(&options.file)?;
     let mut chip = Chip::deliver(options.part, options.durations)
         .map_err(|answer| refusal("The delivery", answer))?;
     let Run { output, .. } =
         chip.pins(&samples).map_err(|answer| run_refusal(&options.file, &samples, answer))?;
     let undriven = if options.pulled_up { Undriven::PulledUp } else { Undriven::Floating };
-    write(&options.output, || output.clone())?;
-    write(&options.vcd, || vcd::text(&samples, &output, undriven).into_bytes())?;
+    if let Some(path) = &options.output {
+        write(path, &output)?;
+    }
+    if let Some(path) = &options.vcd {
+        write(path, vcd::text(&samples, &output, undriven).as_bytes())?;
+    }
     Ok(report(options.part, &samples, &output))
-}
-
-fn refusal(what: &str, answer: Answer) -> String {
-    format!("{what} is refused with {}: {answer}.", answer.number())
 }
 
 /// The refusal of a run; 21 is told with the first sample that is none.
@@ -43,12 +42,6 @@ fn run_refusal(file: &Path, samples: &[u8], answer: Answer) -> String {
         ),
         _ => refusal(&file.to_string(), answer),
     }
-}
-
-fn write(path: &Option<PathBuf>, bytes: impl FnOnce() -> Vec<u8>) -> Result<(), String> {
-    let Some(path) = path else { return Ok(()) };
-    let shown = path.display();
-    write_result(path, &bytes()).map_err(|e| format!("{shown} cannot be written: {e}."))
 }
 
 /// The run in three lines.

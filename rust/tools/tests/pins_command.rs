@@ -164,6 +164,8 @@ fn further_refusals() {
     let needs = "--pulled-up is about the dump and needs --vcd.\n";
     assert_eq!(complaint(command(&["0", good, "--pulled-up"])), needs);
     assert_eq!(complaint(command(&["0", good, "--vcd"])), "--vcd has no value.\n");
+    let one = ["0", good, "--output", "not there", "--vcd", "./not there"];
+    assert_eq!(complaint(command(&one)), "The output and the dump would be one file.\n");
     let mut odd = command(&["0"]);
     odd.arg(OsStr::from_bytes(b"/no\xFFwhere"));
     assert!(complaint(odd).contains("cannot be read: No such file"));

@@ -1,9 +1,11 @@
 //! The command line of `pins`; a bad one is refused with a sentence.
 
-use std::ffi::{OsStr, OsString};
-use std::path::{Path, PathBuf};
+use std::ffi::OsString;
+use std::path::PathBuf;
 
-use m25p::{Durations, Part, UnknownPart};
+use m25p::{Durations, Part};
+
+use crate::command::{once, part, same, ticks};
 
 pub const USAGE: &str = "\
 Usage: pins PART FILE [--output OUT] [--vcd OUT.vcd [--pulled-up]] [--durations P,S,B,W]
@@ -61,9 +63,6 @@ impl Options {
 
     /// Refuses to write over the probe's file, or two results into one.
     fn check(self) -> Result<Options, String> {
-        let same = |a: &Path, b: &Path| {
-            a == b || a.canonicalize().is_ok_and(|a| b.canonicalize().is_ok_and(|b| a == b))
-        };
         if self.pulled_up && self.vcd.is_none() {
             return Err("--pulled-up is about the dump and needs --vcd.".into());
         }
@@ -77,27 +76,4 @@ impl Options {
             _ => Ok(self),
         }
     }
-}
-
-/// Takes the place of an option's value, unless it is taken.
-fn once<T>(place: &mut Option<T>, name: &str, value: T) -> Result<(), String> {
-    match place.replace(value) {
-        None => Ok(()),
-        Some(_) => Err(format!("{name} is given twice.")),
-    }
-}
-
-/// A part by its number or its name.
-fn part(word: &OsStr) -> Result<Part, String> {
-    let text = word.to_string_lossy();
-    let numbered = text.parse().ok().and_then(Part::numbered);
-    numbered.map_or_else(|| text.parse(), Ok).map_err(|unknown: UnknownPart| unknown.to_string())
-}
-
-/// Four durations, parted by commas.
-fn ticks(word: &OsStr) -> Result<Durations, String> {
-    let text = word.to_string_lossy();
-    let numbers: Option<Vec<u32>> = text.split(',').map(|number| number.parse().ok()).collect();
-    let four = numbers.and_then(|numbers| <[u32; 4]>::try_from(numbers).ok());
-    four.map(Durations::from).ok_or(format!("{text} is not four durations such as 3,5,9,2."))
 }
