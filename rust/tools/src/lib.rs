@@ -1,5 +1,4 @@
-//! Commands over the crate `m25p`: `pins` carries out a probe's file, `batch` a day's transactions, and `serprog` is a
-//! chip for flashrom.
+//! Commands over the crate `m25p`: `pins` and `batch` carry out files, and `serprog` is a chip for flashrom.
 
 pub mod batch;
 pub mod command;

@@ -13,7 +13,7 @@ use std::os::unix::ffi::OsStrExt;
 use std::os::unix::fs::symlink;
 
 use batch::{bytes_of, sends, Desk};
-use m25p::batch::Item;
+use m25p::batch::{BadItem, Item, Reason};
 
 /// A desk with a good batch of three items, and an image of the bench part.
 fn desk(name: &str) -> Desk {
@@ -33,28 +33,31 @@ fn good() -> Vec<u8> {
 fn bad_items() {
     let desk = desk("bad_items");
     let listed = "1 WREN\n2 PP 000010 +1\n3 wait 3\n";
-    let cases: [(&[u8], &str); 12] = [
-        (&[1], "is cut: length and flag take 3 bytes, 1 are left"),
-        (&[1, 0], "is cut: length and flag take 3 bytes, 2 are left"),
-        (&[2, 0, 1, 0x05], "is cut: its length is 2, 1 bytes are left"),
-        (&[0, 1, 1], "is cut: its length is 256, 0 bytes are left"),
-        (&[5, 0, 16, 1, 0, 0, 0], "is cut: its length is 5, 4 bytes are left"),
-        (&[1, 0, 255], "is cut: its length is 1, 0 bytes are left"),
-        (&[1, 0, 17, 0x06], "has the flag 17, which is above 16"),
-        (&[0, 0, 255], "has the flag 255, which is above 16"),
-        (&[4, 0, 32, 1, 0, 0, 0], "has the flag 32, which is above 16"),
-        (&[3, 0, 16, 1, 0, 0], "is a wait of length 3, not of 4"),
-        (&[5, 0, 16, 1, 0, 0, 0, 0], "is a wait of length 5, not of 4"),
-        (&[0, 0, 16], "is a wait of length 0, not of 4"),
+    let cut = |length, left| Reason::Body { length, left };
+    let cases: [(&[u8], Reason); 12] = [
+        (&[1], Reason::Head(1)),
+        (&[1, 0], Reason::Head(2)),
+        (&[2, 0, 1, 0x05], cut(2, 1)),
+        (&[0, 1, 1], cut(256, 0)),
+        (&[5, 0, 16, 1, 0, 0, 0], cut(5, 4)),
+        (&[1, 0, 255], cut(1, 0)),
+        (&[1, 0, 17, 0x06], Reason::Flag(17)),
+        (&[0, 0, 255], Reason::Flag(255)),
+        (&[4, 0, 32, 1, 0, 0, 0], Reason::Flag(32)),
+        (&[3, 0, 16, 1, 0, 0], Reason::WaitLength(3)),
+        (&[5, 0, 16, 1, 0, 0, 0, 0], Reason::WaitLength(5)),
+        (&[0, 0, 16], Reason::WaitLength(0)),
     ];
-    for (item, why) in cases {
+    for (item, reason) in cases {
+        let why = BadItem { at: 19, reason }.to_string();
+        assert!(why.contains("byte 19"), "{why}");
+        let sentence = format!("bad is refused with 9 at item 4: {why}.");
         for behind in [&[][..], &good()] {
-            // What is cut is so only at the end.
-            if why.starts_with("is cut") && !behind.is_empty() {
+            // An item can be cut at the end alone.
+            if matches!(reason, Reason::Head(_) | Reason::Body { .. }) && !behind.is_empty() {
                 continue;
             }
             desk.put("bad", [&good(), item, behind].concat());
-            let sentence = format!("bad is refused with 9 at item 4: the item at byte 19 {why}.");
             assert_eq!(desk.refused(&["list", "bad"], listed), sentence);
             let words = ["run", "0", "bad", "--image", "image", "--save", "image"];
             for more in [&[][..], &["--responses", "heard"]] {
@@ -63,8 +66,9 @@ fn bad_items() {
         }
     }
     desk.put("bad", [17]);
-    let first = "bad is refused with 9 at item 1: the item at byte 0 is cut: ";
-    assert!(desk.refused(&["list", "bad"], "").starts_with(first));
+    let why = BadItem { at: 0, reason: Reason::Head(1) };
+    let sentence = format!("bad is refused with 9 at item 1: {why}.");
+    assert_eq!(desk.refused(&["list", "bad"], ""), sentence);
 }
 
 #[test]
