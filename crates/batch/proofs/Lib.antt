@@ -7,3 +7,4 @@ pub mod Taken
 pub mod Singly
 pub mod Append
 pub mod Theorems
+pub mod Protected

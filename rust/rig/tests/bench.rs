@@ -7,12 +7,13 @@ use std::sync::mpsc::channel;
 use std::thread;
 use std::time::Duration;
 
-use rig::bench_model::{self, Bench, MOST_CHARACTERS};
+use rig::bench_model::{self, Bench, Line, MOST_CHARACTERS};
 use rig::compare::{Call, Source};
 use rig::generate::Generator;
 use rig::kit;
 use rig::model::Record;
 use rig::rng::Rng;
+use tools::batch::items_of;
 
 const SEED: u64 = 1;
 
@@ -220,6 +221,24 @@ fn many_lines_in_pieces() {
             rest = behind;
         }
         same(&input, &run(pieces, pause));
+    }
+}
+
+/// The command `batch` takes the lines that the bench takes, but for its power-up, and with the same meaning.
+#[test]
+fn lines_of_a_batch() {
+    let input = input(20_000, SEED + 8);
+    let odd = odd_lines();
+    for line in odd.iter().map(|line| &line[..]).chain(bench_model::lines(&input)) {
+        let item = match bench_model::parse(line) {
+            Some(Line::Transaction { w, pulses, sent }) => {
+                let [low, high, ..] = sent.len().to_le_bytes();
+                Some([&[low, high, (pulses << 1 | w) as u8], &sent[..]].concat())
+            }
+            Some(Line::Wait(ticks)) => Some([&[4, 0, 16], &ticks.to_le_bytes()[..]].concat()),
+            Some(Line::PowerUp) | None => None,
+        };
+        assert_eq!(items_of(&[line, b"\n"].concat()).ok(), item, "{}", line.escape_ascii());
     }
 }
 
