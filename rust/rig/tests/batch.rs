@@ -1,66 +1,38 @@
 //! m25p_batch against the model, over all seven parts, and against the single calls. RIG_RUNS and RIG_SEED make it
 //! longer or another.
 
+#[path = "support/parts.rs"]
+mod parts;
+
 use m25p::calls;
+use parts::{assert_chip_often, assert_often, compared, sees, Plan, OFTEN, SEED};
 use rig::batch_generate::BatchGenerator;
 use rig::batch_model::{written, Item};
-use rig::compare::{episode, Pair, Rules, Seen, Side, Source, Step, Tally, PAPER};
+use rig::compare::{Pair, Rules, Seen, Side, Source, Step, Tally, PAPER};
 use rig::faults;
-use rig::model::{CODES, PARTS, RECORD_BYTES, SMALL};
+use rig::model::{PARTS, RECORD_BYTES, SMALL};
 use rig::rng::Rng;
 use rig::{number, tell};
 
 const DEFAULT_RUNS: u64 = 40_000;
-const DEFAULT_SEED: u64 = 1;
 
-/// Batches of one episode, by part.
-const EPISODE: [u64; PARTS.len()] = [50, 50, 50, 20, 20, 50, 50];
-
-/// How many of a hundred batches go to each part: comparing the large arrays takes its time.
-const SHARE: [u64; PARTS.len()] = [45, 12, 8, 1, 1, 8, 25];
+/// Comparing the large arrays takes its time: they have fewer batches.
+const PLAN: Plan = Plan { episode: [50, 50, 50, 20, 20, 50, 50], share: [45, 12, 8, 1, 1, 8, 25] };
 
 #[test]
 fn batches_equal_model() {
-    let runs = number("RIG_RUNS", DEFAULT_RUNS);
-    let seed = number("RIG_SEED", DEFAULT_SEED);
-    tell(&format!("batch: seed {seed}, at least {runs} batches"));
-    let mut seeds = Rng::new(seed);
-    let mut tally = Tally::default();
-    let mut end = 0;
-    for (part, length) in EPISODE.into_iter().enumerate() {
-        end += runs * SHARE[part] / 100;
-        while tally.calls < end {
-            let seed = seeds.draw();
-            episode::<BatchGenerator>(part, length, seed, PAPER, &mut tally)
-                .unwrap_or_else(|difference| panic!("{difference}"));
-        }
-    }
-    tell(&format!("batch: {}", tally.show()));
-    for answer in [0, 2, 6, 8, 9, 10] {
-        assert!(tally.answers[answer] >= 20, "answer {answer} came too seldom");
-    }
-    for answer in [0, 11, 12, 13, 14, 15, 16, 17, 18, 19] {
-        assert!(tally.batches.chip[answer] >= 20, "the chip's number {answer} came too seldom");
-    }
-    for code in CODES {
-        let times = tally.batches.executed[code as usize];
-        assert!(times >= 20, "instruction {code:02X} was executed {times} times only");
-    }
-    assert_eq!(tally.batches.seldom(20), [""; 0], "what batches did too seldom");
-    let waits = tally.batches.ends.seldom_waited(20, &PARTS[6]);
+    let tally = compared::<BatchGenerator>("batch", number("RIG_RUNS", DEFAULT_RUNS), &PLAN);
+    assert_often("answer", &tally.answers, [0, 2, 6, 8, 9, 10]);
+    assert_chip_often(&tally.batches.chip, &tally.batches.executed);
+    assert_eq!(tally.batches.seldom(OFTEN), [""; 0], "what batches did too seldom");
+    let waits = tally.batches.ends.seldom_waited(OFTEN, &PARTS[6]);
     assert_eq!(waits, [""; 0], "what became of cycles too seldom");
 }
 
-/// With a fault in the model the same comparison finds a difference, each time.
 #[test]
 fn faults_are_seen() {
     for (name, fault) in faults::BATCH {
-        let rules = Rules { batch: *fault, ..PAPER };
-        let mut seeds = Rng::new(DEFAULT_SEED);
-        let mut tally = Tally::default();
-        let mut differs = |seed| episode::<BatchGenerator>(0, 50, seed, rules, &mut tally).is_err();
-        let seen = (0..200).any(|_| differs(seeds.draw()));
-        assert!(seen, "{name} was not seen in {} batches", tally.calls);
+        sees::<BatchGenerator>(name, Rules { batch: *fault, ..PAPER }, &PLAN, &[0], 200);
     }
 }
 
@@ -75,7 +47,7 @@ struct Batch<'a> {
 
 /// Random batches on chips of the small parts.
 fn each_batch(count: u64, mut look: impl FnMut(Batch)) {
-    let mut seeds = Rng::new(number("RIG_SEED", DEFAULT_SEED));
+    let mut seeds = Rng::new(number("RIG_SEED", SEED));
     for part in SMALL {
         let mut generator = BatchGenerator::new(part, seeds.draw());
         let mut rng = Rng::new(seeds.draw());
@@ -162,7 +134,7 @@ fn run(side: &mut Side, array_len: usize, items: &[Item], filling: u8) -> (u64, 
 /// Two batches one after the other leave what the batch of the appended bytes leaves.
 #[test]
 fn two_batches_are_one() {
-    let mut rng = Rng::new(DEFAULT_SEED);
+    let mut rng = Rng::new(SEED);
     let mut parted = 0;
     each_batch(1_000, |Batch { before, step, seen, .. }| {
         let items = &seen.day.items;

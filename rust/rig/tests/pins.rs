@@ -1,68 +1,40 @@
 //! m25p_pins against the model, over all seven parts. RIG_RUNS and RIG_SEED make it longer or another.
 
+#[path = "support/parts.rs"]
+mod parts;
+
 use m25p::{calls, Answer};
-use rig::compare::{episode, Call, Pair, Rules, Seen, Source, Step, Tally, PAPER};
+use parts::{assert_chip_often, assert_often, compared, sees, Plan, OFTEN, SEED};
+use rig::compare::{Call, Pair, Rules, Seen, Source, Step, Tally, PAPER};
 use rig::faults;
-use rig::model::{Packed, CODES, PARTS, RECORD_BYTES, SMALL};
+use rig::model::{Packed, RECORD_BYTES, SMALL};
 use rig::pins_generate::PinsGenerator;
 use rig::pins_model::End;
 use rig::plain_pins;
 use rig::rng::Rng;
-use rig::{number, tell};
+use rig::number;
 use tools::pins::Ends;
 
 const DEFAULT_RUNS: u64 = 20_000;
-const DEFAULT_SEED: u64 = 1;
 
-/// Runs of one episode, by part.
-const EPISODE: [u64; PARTS.len()] = [50, 50, 50, 20, 20, 50, 50];
-
-/// How many of a hundred runs go to each part: comparing the large arrays takes its time.
-const SHARE: [u64; PARTS.len()] = [40, 15, 10, 2, 1, 7, 25];
+/// Comparing the large arrays takes its time: they have fewer runs.
+const PLAN: Plan = Plan { episode: [50, 50, 50, 20, 20, 50, 50], share: [40, 15, 10, 2, 1, 7, 25] };
 
 #[test]
 fn runs_equal_model() {
-    let runs = number("RIG_RUNS", DEFAULT_RUNS);
-    let seed = number("RIG_SEED", DEFAULT_SEED);
-    tell(&format!("pins: seed {seed}, at least {runs} runs"));
-    let mut seeds = Rng::new(seed);
-    let mut tally = Tally::default();
-    let mut end = 0;
-    for (part, length) in EPISODE.into_iter().enumerate() {
-        end += runs * SHARE[part] / 100;
-        while tally.calls < end {
-            let seed = seeds.draw();
-            episode::<PinsGenerator>(part, length, seed, PAPER, &mut tally)
-                .unwrap_or_else(|difference| panic!("{difference}"));
-        }
-    }
-    tell(&format!("pins: {}", tally.show()));
-    for answer in [0, 2, 6, 8, 21, 23] {
-        assert!(tally.answers[answer] >= 20, "answer {answer} came too seldom");
-    }
-    for answer in [0, 11, 12, 13, 14, 15, 16, 17, 18, 19] {
-        assert!(tally.pins.chip[answer] >= 20, "the chip's number {answer} came too seldom");
-    }
-    for code in CODES {
-        let times = tally.pins.executed[code as usize];
-        assert!(times >= 20, "instruction {code:02X} was executed {times} times only");
-    }
+    let tally = compared::<PinsGenerator>("pins", number("RIG_RUNS", DEFAULT_RUNS), &PLAN);
+    assert_often("answer", &tally.answers, [0, 2, 6, 8, 21, 23]);
+    assert_chip_often(&tally.pins.chip, &tally.pins.executed);
     let ends = [tally.pins.carried_out, tally.pins.thrown_away, tally.pins.unfinished];
-    assert!(ends.into_iter().all(|times| times >= 20), "an end came too seldom");
-    assert!(tally.pins.long_held >= 20, "a long transaction was held too seldom");
-    assert_eq!(tally.programs.seldom(20), [""; 0], "programs that came too seldom");
+    assert!(ends.into_iter().all(|times| times >= OFTEN), "an end came too seldom");
+    assert!(tally.pins.long_held >= OFTEN, "a long transaction was held too seldom");
+    assert_eq!(tally.programs.seldom(OFTEN), [""; 0], "programs that came too seldom");
 }
 
-/// With a fault in the model the same comparison finds a difference, each time.
 #[test]
 fn faults_are_seen() {
     for (name, fault) in faults::SHORT {
-        let rules = Rules { pins: *fault, ..PAPER };
-        let mut seeds = Rng::new(DEFAULT_SEED);
-        let mut tally = Tally::default();
-        let mut differs = |seed| episode::<PinsGenerator>(0, 50, seed, rules, &mut tally).is_err();
-        let seen = (0..200).any(|_| differs(seeds.draw()));
-        assert!(seen, "{name} was not seen in {} runs", tally.calls);
+        sees::<PinsGenerator>(name, Rules { pins: *fault, ..PAPER }, &PLAN, &[0], 200);
     }
 }
 
@@ -77,7 +49,7 @@ struct Run<'a> {
 /// Random runs on chips of the small parts; each is looked at with the chip from before it and from behind
 /// it.
 fn each_run(count: u64, mut look: impl FnMut(&Pair, &Pair, Run)) {
-    let seed = number("RIG_SEED", DEFAULT_SEED);
+    let seed = number("RIG_SEED", SEED);
     let mut seeds = Rng::new(seed);
     for part in SMALL {
         let mut generator = PinsGenerator::new(part, seeds.draw());
@@ -123,7 +95,7 @@ fn equals_single_transactions() {
 /// The output of a run cut short is the beginning of the whole run's.
 #[test]
 fn no_output_depends_on_a_later_sample() {
-    let mut rng = Rng::new(DEFAULT_SEED);
+    let mut rng = Rng::new(SEED);
     each_run(300, |before, after, run| {
         if run.seen.answer() != 0 {
             return;

@@ -1,0 +1,60 @@
+//! Random episodes over all seven parts, faults that they see, and what must have come often.
+
+use rig::compare::{episode, Rules, Source, Tally, PAPER};
+use rig::model::{CODES, PARTS};
+use rig::rng::Rng;
+use rig::{number, tell};
+
+pub const SEED: u64 = 1;
+
+/// How often what is to be seen must have come.
+pub const OFTEN: u64 = 20;
+
+/// The calls of one episode, and the share of all calls, by part.
+pub struct Plan {
+    pub episode: [u64; PARTS.len()],
+    pub share: [u64; PARTS.len()],
+}
+
+/// Library and model compared over at least so many calls; RIG_SEED makes them others.
+pub fn compared<S: Source>(what: &str, calls: u64, plan: &Plan) -> Tally {
+    let seed = number("RIG_SEED", SEED);
+    tell(&format!("{what}: seed {seed}, at least {calls} calls"));
+    let mut seeds = Rng::new(seed);
+    let mut tally = Tally::default();
+    let (all, mut shares) = (plan.share.iter().sum::<u64>(), 0);
+    for (part, share) in plan.share.into_iter().enumerate() {
+        shares += share;
+        while tally.calls < calls * shares / all {
+            episode::<S>(part, plan.episode[part], seeds.draw(), PAPER, &mut tally)
+                .unwrap_or_else(|difference| panic!("{difference}"));
+        }
+    }
+    tell(&format!("{what}: {}", tally.show()));
+    tally
+}
+
+/// With a fault in the model the same comparison finds a difference, in one of so many episodes on these parts in turn.
+pub fn sees<S: Source>(name: &str, rules: Rules, plan: &Plan, parts: &[usize], episodes: usize) {
+    let mut seeds = Rng::new(SEED);
+    let mut tally = Tally::default();
+    let seen = (0..episodes).any(|i| {
+        let part = parts[i % parts.len()];
+        episode::<S>(part, plan.episode[part], seeds.draw(), rules, &mut tally).is_err()
+    });
+    assert!(seen, "{name} was not seen in {} calls", tally.calls);
+}
+
+/// Each of these numbers came often.
+pub fn assert_often(what: &str, times: &[u64], numbers: impl IntoIterator<Item = u8>) {
+    for number in numbers {
+        let times = times[usize::from(number)];
+        assert!(times >= OFTEN, "{what} {number:#04X} came {times} times only");
+    }
+}
+
+/// Each of the chip's own numbers came often, and each instruction was executed often.
+pub fn assert_chip_often(chip: &[u64], executed: &[u64]) {
+    assert_often("the chip's number", chip, [0].into_iter().chain(11..=19));
+    assert_often("an executed instruction", executed, CODES);
+}
