@@ -3,7 +3,7 @@ pub mod Items
 pub mod One
 pub mod Going
 pub mod Runs
-pub mod Taken
+pub mod Fits
 pub mod Singly
 pub mod Append
 pub mod Theorems

@@ -23,7 +23,7 @@ use Rattle.chip.proofs.Rules.{Bytes, chip-answers}
 use Rattle.batch.specs.Items.{eventsOf}
 use Rattle.batch.specs.Batch.{numbers, batchNumber, Out, carriedOut, batched, Batched}
 use Rattle.batch.proofs.Runs.{accepted}
-use Rattle.batch.proofs.Taken.{Taken, AllTaken, events-taken}
+use Rattle.batch.proofs.Fits.{Fits, AllFit, events-fit}
 
 -- a sound record stays sound, refused or not
 pub batch-sound : {d : Device} {array items responses answers missing : List ℕ} {r : Checked} {array′ responses′ answers′ missing′ : List ℕ} → Batched d array items responses answers missing r array′ responses′ answers′ missing′
@@ -44,7 +44,7 @@ abbrev pub OfItems : List ℕ → Type 0
 OfItems [] = Unit {0}
 OfItems (k ∷ ks) = OfItem k × OfItems ks
 
-one-answer : (e : Event) (c : Chip) → Good c → Taken e → OfItem (reply e c .answer .number)
+one-answer : (e : Event) (c : Chip) → Good c → Fits e → OfItem (reply e c .answer .number)
 unfolding sent
 one-answer (sends bytes p w) c g t =
     let r : List ℕ = replicate (length bytes) 0 in
@@ -54,7 +54,7 @@ one-answer (waits t) c g u = inl (ap (λ (o : Timed). o .answer) (wait-done c g 
 one-answer starts c g t = absurd t
 one-answer (loses mask told) c g t = absurd t
 
-all-answers : (es : List Event) (c : Chip) → Good c → AllTaken es → OfItems (numbers (story es c))
+all-answers : (es : List Event) (c : Chip) → Good c → AllFit es → OfItems (numbers (story es c))
 all-answers [] c g t = tt
 all-answers (e ∷ es) c g t = (one-answer e c g (t .0), all-answers es (after e c) (after-good e c g) (t .1))
 
@@ -62,7 +62,7 @@ all-answers (e ∷ es) c g t = (one-answer e c g (t .0), all-answers es (after e
 pub items-answer : (d : Device) (array items : List ℕ) (responses answers missing : ℕ) → Bytes items → batchNumber d (length array) items responses answers missing ≡ 0 → OfItems (numbers (story (eventsOf items) (chip d array)))
 items-answer d array items responses answers missing b z =
     let k = accepted d array items responses answers missing z in
-    all-answers (eventsOf items) (chip d array) (k .good) (events-taken items (k .formed) b)
+    all-answers (eventsOf items) (chip d array) (k .good) (events-fit items (k .formed) b)
 
 -- ---- byte by byte
 

@@ -44,32 +44,32 @@ items-short (x ∷ xs) zero b =
 -- ---- events that no call refuses for their form
 
 -- a transaction of at most 65,536 bytes and 7 further pulses, or a wait
-abbrev pub Taken : Event → Type 0
-Taken (sends bytes pulses w) = (length bytes ≤ 65536) × (pulses ≤ 7)
-Taken (waits t) = Unit {0}
-Taken starts = ⊥
-Taken (loses mask told) = ⊥
+abbrev pub Fits : Event → Type 0
+Fits (sends bytes pulses w) = (length bytes ≤ 65536) × (pulses ≤ 7)
+Fits (waits t) = Unit {0}
+Fits starts = ⊥
+Fits (loses mask told) = ⊥
 
-abbrev pub AllTaken : List Event → Type 0
-AllTaken [] = Unit {0}
-AllTaken (e ∷ es) = Taken e × AllTaken es
+abbrev pub AllFit : List Event → Type 0
+AllFit [] = Unit {0}
+AllFit (e ∷ es) = Fits e × AllFit es
 
-item-taken : (i : List ℕ) → goodItem i ≡ true → lengthIn i ≤ 65535 → Taken (eventIn i)
-item-taken i g s = go (eqb (flagIn i) 16) refl
+item-fits : (i : List ℕ) → goodItem i ≡ true → lengthIn i ≤ 65535 → Fits (eventIn i)
+item-fits i g s = go (eqb (flagIn i) 16) refl
   where
-    go : (b : Bool) → eqb (flagIn i) 16 ≡ b → Taken (eventIn i)
+    go : (b : Bool) → eqb (flagIn i) 16 ≡ b → Fits (eventIn i)
     go true e = rw (waits-is i (eqb-true (flagIn i) 16 e)) tt
     go false e =
         let n = eqb-false (flagIn i) 16 e in
         rw (sends-is i n) (omega (arith, length-drop 3 i, item-long i g), omega (arith, flag-small i g n))
 
-all-taken : (is : List (List ℕ)) → allGood is ≡ true → Short is → AllTaken (map eventIn is)
-all-taken [] g s = tt
-all-taken (i ∷ is) g s = let p = both (goodItem i) (allGood is) g in (item-taken i (p .0) (s .0), all-taken is (p .1) (s .1))
+all-fit : (is : List (List ℕ)) → allGood is ≡ true → Short is → AllFit (map eventIn is)
+all-fit [] g s = tt
+all-fit (i ∷ is) g s = let p = both (goodItem i) (allGood is) g in (item-fits i (p .0) (s .0), all-fit is (p .1) (s .1))
 
 -- the events of good items
-pub events-taken : (items : List ℕ) → allGood (itemsOf items) ≡ true → Bytes items → AllTaken (eventsOf items)
-events-taken items g b = all-taken (itemsOf items) g (items-short items 0 b)
+pub events-fit : (items : List ℕ) → allGood (itemsOf items) ≡ true → Bytes items → AllFit (eventsOf items)
+events-fit items g b = all-fit (itemsOf items) g (items-short items 0 b)
 
 -- ---- buffers that always suffice
 
