@@ -344,8 +344,9 @@ uint64_t m25p_pins(uint8_t *record, size_t record_len,
  *                little-endian
  *
  * The items are carried out in order, each as by one call of m25p_transact or m25p_wait: record, array,
- * responses and answers come out as they would by those. Two batches one after the other are the batch of
- * both rows one behind the other, where neither is refused.
+ * responses and answers come out as they would by those. Two batches one after the other, neither refused,
+ * are the batch of both rows one behind the other, where the second is lent what the first left over of
+ * responses and answers; their sums in missing, which each sets anew, are to be added.
  *
  * responses: the responses of the transactions follow each other, each as long as what was sent: byte i of
  * it is what the chip drove during byte i, FF where it drove nothing. A wait has none. answers: one byte for

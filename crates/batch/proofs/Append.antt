@@ -1,9 +1,9 @@
--- THEOREM: two batches one after the other, neither refused, leave what the batch of both leaves, their bytes appended.
+-- THEOREM: two batches one after the other, neither refused, leave what the batch of both leaves, their bytes appended and their bits missing added; and a batch that is not refused may be cut in two behind any item.
 -- Assumes nothing.
 use mathlib.Core.Path.{_≡_, refl, sym, ap, _∙_}
-use mathlib.Core.Bool.{Bool, true, false, _&&_}
+use mathlib.Core.Bool.{true}
 use mathlib.Core.List.{List, [], _∷_, _++_, map, append-assoc}
-use Prim.Native.Nat.{ℕ, zero, suc, _+_, _-_, _≤_, _<_}
+use Prim.Native.Nat.{ℕ, zero, suc, _+_, _-_, _≤_}
 use native.Mathlib.Nat.{zero-add}
 use native.Mathlib.Omega.{arith}
 use lib.ListN.{length, getD, take, drop, length-append, length-take, length-drop, List·getD-append}
@@ -16,10 +16,9 @@ use Rattle.device.specs.declared.Device.{Device}
 use Rattle.device.specs.declared.Checked.{Checked}
 use Rattle.device.specs.Chip.{Chip, chip}
 use Rattle.chip.specs.Events.{Event, Reply, after, reply, run, missed, story}
-use Rattle.chip.proofs.Events.{run-append, story-append, missed-append}
-use Rattle.batch.specs.Items.{lengthIn, flagIn, firstIn, itemsFrom, itemsOf, goodItem, allGood, eventIn, eventsOf}
-use Rattle.batch.specs.Batch.{lines, numbers, roomOf, roomFor, wrapped, batchNumber, Out, carriedOut, batched, Holds, Batched}
-use Rattle.batch.proofs.Items.{items-skip}
+use Rattle.chip.proofs.Events.{run-append, story-append, missed-append, run-good}
+use Rattle.batch.specs.Items.{lengthIn, firstIn, itemsFrom, itemsOf, goodItem, allGood, eventIn, eventsOf}
+use Rattle.batch.specs.Batch.{lines, numbers, roomFor, missingBytes, wrapped, batchNumber, Out, carriedOut, batched, Holds, Batched}
 use Rattle.batch.proofs.One.{item-long}
 use Rattle.batch.proofs.Going.{reply-length}
 use Rattle.batch.proofs.Runs.{Accepted, accepted, accepting}
@@ -201,3 +200,42 @@ module _ (d : Device) (array a b responses answers missing : List ℕ) where
             sum = refl;
           });
         }
+
+-- ---- cut in two
+
+good-rest : (is js : List (List ℕ)) → allGood (is ++ js) ≡ true → allGood js ≡ true
+good-rest [] js h = h
+good-rest (i ∷ is) js h = good-rest is js (both (goodItem i) (allGood (is ++ js)) h .1)
+
+-- a batch that is not refused, and its first items
+module _ (d : Device) (array a b responses answers missing : List ℕ) (g : allGood (itemsOf a) ≡ true) (z : batchNumber d (length array) (a ++ b) (length responses) (length answers) (length missing) ≡ 0) where
+  whole : Accepted d array (a ++ b) (length responses) (length answers) (length missing)
+  whole = accepted d array (a ++ b) _ _ _ z
+
+  rooms : roomFor (eventsOf a) + roomFor (eventsOf b) ≤ length responses
+  rooms = rw (events-append a b g, room-append (eventsOf a) (eventsOf b)) at (whole .room)
+
+  counts : length (eventsOf a) + length (eventsOf b) ≤ length answers
+  counts = rw (events-append a b g, length-append (eventsOf a) (eventsOf b)) at (whole .places)
+
+  -- THEOREM: these alone are not refused either
+  pub first-goes : batchNumber d (length array) a (length responses) (length answers) (length missing) ≡ 0
+  first-goes = accepting (record { good = whole .good; formed = g; room = omega (arith, rooms); places = omega (arith, counts); sum = whole .sum })
+
+  -- THEOREM: nor are the others behind them, on what they leave
+  pub rest-goes : (other : List ℕ) {r : Checked} {array′ responses′ answers′ missing′ : List ℕ} → Batched d array a responses answers missing r array′ responses′ answers′ missing′ → missingBytes ≤ length other
+      → batchNumber (r .device) (length array′) b (length (drop (roomFor (eventsOf a)) responses′)) (length (drop (length (eventsOf a)) answers′)) (length other) ≡ 0
+  unfolding batched carriedOut
+  rest-goes other {r} {array′} {responses′} {answers′} {missing′} p l =
+      let h : Holds (carriedOut (eventsOf a) (chip d array) responses answers missing) (r .device) array′ responses′ answers′ missing′ = rw first-goes at (p .outcome) in
+      let m = ap length (h .lines) ∙ one-responses (eventsOf a) (eventsOf b) (chip d array) responses answers missing other (omega (arith, rooms)) in
+      let n = ap length (h .numbers) ∙ one-answers (eventsOf a) (eventsOf b) (chip d array) responses answers missing other (omega (arith, counts)) in
+      let k : Accepted (r .device) array′ b (length (drop (roomFor (eventsOf a)) responses′)) (length (drop (length (eventsOf a)) answers′)) (length other) =
+      record {
+        good = rw (h .device, h .memory) (run-good (eventsOf a) (chip d array) (whole .good));
+        formed = good-rest (itemsOf a) (itemsOf b) (rw (items-append a b g) at (whole .formed));
+        room = omega (arith, rooms, length-drop (roomFor (eventsOf a)) responses′);
+        places = omega (arith, counts, length-drop (length (eventsOf a)) answers′);
+        sum = l;
+      } in
+      accepting k

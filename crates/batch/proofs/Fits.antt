@@ -1,15 +1,14 @@
 -- The events of good items are transactions that no call refuses, and waits: what each answers, and that buffers as long as the items always suffice.
 -- Assumes nothing.
-use mathlib.Core.Path.{_≡_, refl, sym, ap, _∙_}
-use mathlib.Core.Bool.{Bool, true, false, cond, _&&_}
+use mathlib.Core.Path.{_≡_, refl}
+use mathlib.Core.Bool.{Bool, true, false}
 use mathlib.Core.List.{List, [], _∷_, map}
-use Prim.Native.Nat.{ℕ, zero, suc, _+_, _*_, _/_, _%_, _≤_, _<_}
+use Prim.Native.Nat.{ℕ, zero, suc, _+_, _*_, _/_, _≤_, _<_}
 use native.Mathlib.Omega.{arith}
 use borrow.Author.Tests.{eqb-true, eqb-false, ltb-true, ltb-false}
-use lib.Dec.{eqb, ltb, lit<, lit≤}
-use lib.ListN.{length, getD, take, drop, length-take, length-drop, List·getD-eq-default}
+use lib.Dec.{eqb, ltb, lit<}
+use lib.ListN.{length, getD, take, length-take, length-drop, List·getD-eq-default}
 use lib.Seq.{getD-take}
-use Rattle.slices.specs.Bytes.{wordAt}
 use Rattle.slices.proofs.Choices.{both}
 use Rattle.chip.specs.Events.{Event, sends, waits, starts, loses}
 use Rattle.chip.proofs.Rules.{Bytes}

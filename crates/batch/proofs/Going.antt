@@ -14,7 +14,7 @@ use Rattle.slices.proofs.Parts.{length-lent}
 use Rattle.device.specs.declared.Device.{Device}
 use Rattle.device.specs.Chip.{chip}
 use Rattle.chip.specs.declared.Done.{Done}
-use Rattle.chip.specs.Events.{Chip, Good, Event, sends, waits, starts, loses, after, reply, run, missed, story}
+use Rattle.chip.specs.Events.{Chip, Good, Event, sends, waits, starts, loses, after, reply, missed, story}
 use Rattle.chip.proofs.Events.{line-length, after-length, after-good}
 use Rattle.batch.specs.declared.Tally.{Tally}
 use Rattle.batch.specs.Items.{itemsFrom, itemsOf, goodItem, allGood, eventIn, eventsOf}

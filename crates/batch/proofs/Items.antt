@@ -2,15 +2,15 @@
 -- Assumes nothing.
 use mathlib.Core.Path.{_≡_, refl, sym, ap, _∙_}
 use mathlib.Core.Bool.{Bool, true, false, cond, _&&_}
-use mathlib.Core.List.{List, [], _∷_, map}
+use mathlib.Core.List.{List, [], _∷_}
 use Prim.Native.Nat.{ℕ, zero, suc, _+_, _-_, _/_, _%_, _≤_, _<_, min}
 use native.Mathlib.Nat.{le-refl, zero-min, suc-min-suc}
 use native.Mathlib.Omega.{arith}
 use lib.Dec.{eqb}
-use lib.ListN.{length, getD, take, drop, length-take, length-drop, drop-of-length-le}
+use lib.ListN.{length, take, drop, length-take, length-drop, drop-of-length-le}
 use lib.Seq.{take-all, take-nil, drop-nil, drop-drop}
 use Rattle.slices.specs.Bytes.{wordAt}
-use Rattle.chip.specs.Events.{Event, sends, waits}
+use Rattle.chip.specs.Events.{sends, waits}
 use Rattle.batch.specs.declared.Sizes.{Sizes}
 use Rattle.batch.specs.Items.{lengthIn, flagIn, firstIn, itemsFrom, itemsOf, goodItem, allGood, eventIn, eventsOf}
 use Rattle.batch.specs.Batch.{roomOf, roomFor}

@@ -1,26 +1,24 @@
 -- Wishes 8 and 11 of batches: with W low in every flag byte, a batch's events are such as hardware protection speaks of; and a batch goes by a lock as its items do.
 -- Assumes nothing.
 use mathlib.Core.Path.{_≡_, refl}
-use mathlib.Core.Bool.{Bool, true, false, cond, _&&_}
+use mathlib.Core.Bool.{Bool, true, _&&_}
 use mathlib.Core.List.{List, [], _∷_, map}
-use Prim.Native.Nat.{ℕ, zero, suc, _/_, _%_}
+use Prim.Native.Nat.{ℕ, zero, suc, _%_}
 use native.Mathlib.Omega.{arith}
 use borrow.Author.Tests.{eqb-true, ne-eqb}
 use lib.Dec.{eqb}
-use lib.ListN.{length, drop}
-use Rattle.slices.specs.Bytes.{wordAt}
-use Rattle.slices.specs.Chosen.{onZero}
+use lib.ListN.{length}
 use Rattle.slices.proofs.Choices.{both, cond-ind}
 use Rattle.device.specs.declared.Device.{Device}
 use Rattle.device.specs.declared.Checked.{Checked}
 use Rattle.device.specs.Chip.{Chip, chip}
-use Rattle.chip.specs.Events.{Event, sends, waits, every, goesOn, run}
+use Rattle.chip.specs.Events.{Event, every, goesOn, run}
 use Rattle.chip.specs.Protection.{Armed, wLow, Kept}
 use Rattle.chip.specs.Locked.{Locked, Held}
 use Rattle.chip.proofs.Locked.{lock-holds}
 use Rattle.chip.proofs.Protection.{kept-none, hardware-protects}
 use Rattle.batch.specs.Items.{flagIn, itemsOf, eventIn, eventsOf}
-use Rattle.batch.specs.Batch.{batchNumber, Out, carriedOut, batched, Holds, Batched}
+use Rattle.batch.specs.Batch.{batchNumber, carriedOut, batched, Holds, Batched}
 
 -- bit 0 of every flag byte is 0
 abbrev pub lowFlags : List (List ℕ) → Bool
@@ -34,7 +32,7 @@ item-low i h =
     let e = eqb-true (flagIn i % 2) 0 h in
     cond-ind (λ (v : Event). wLow v ≡ true) (eqb (flagIn i) 16) refl (rw (ne-eqb (flagIn i % 2) 1 (λ z. omega arith)))
 
-items-low : (is : List (List ℕ)) → lowFlags is ≡ true → every wLow (map eventIn is) ≡ true
+pub items-low : (is : List (List ℕ)) → lowFlags is ≡ true → every wLow (map eventIn is) ≡ true
 items-low [] h = refl
 items-low (i ∷ is) h = let p = both (eqb (flagIn i % 2) 0) (lowFlags is) h in rw (item-low i (p .0)) (items-low is (p .1))
 
@@ -43,7 +41,7 @@ item-goes : (i : List ℕ) → goesOn (eventIn i) ≡ true
 unfolding eventIn
 item-goes i = cond-ind (λ (v : Event). goesOn v ≡ true) (eqb (flagIn i) 16) refl refl
 
-items-go : (is : List (List ℕ)) → every goesOn (map eventIn is) ≡ true
+pub items-go : (is : List (List ℕ)) → every goesOn (map eventIn is) ≡ true
 items-go [] = refl
 items-go (i ∷ is) = rw (item-goes i) (items-go is)
 

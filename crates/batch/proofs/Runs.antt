@@ -3,7 +3,7 @@
 use mathlib.Core.Path.{_≡_, refl, sym, ap, _∙_}
 use mathlib.Core.Bool.{Bool, true, false, _||_, false≢true}
 use mathlib.Core.List.{List}
-use Prim.Native.Nat.{ℕ, _+_, _≤_, _<_}
+use Prim.Native.Nat.{ℕ, _≤_, _<_}
 use native.Mathlib.Nat.{zero-add}
 use borrow.Author.Tests.{eqb-true, eq-eqb, ne-eqb, ltb-false, lt-ltb, le-ltb, not-false}
 use lib.Dec.{eqb, ltb}
@@ -19,7 +19,7 @@ use Rattle.device.specs.Device.{sound}
 use Rattle.chip.specs.Events.{Good, missed}
 use Rattle.batch.specs.declared.Tally.{Tally}
 use Rattle.batch.specs.Items.{itemsOf, allGood, eventsOf}
-use Rattle.batch.specs.Batch.{roomFor, missingBytes, wrapped, batchNumber, Out, carriedOut, batched, Holds, Batched}
+use Rattle.batch.specs.Batch.{roomFor, missingBytes, wrapped, batchNumber, Out, carriedOut, batched, Batched}
 use Rattle.batch.specs.Found.{carriedFrom, CarriedAs}
 
 -- a batch that is not refused: every test passed

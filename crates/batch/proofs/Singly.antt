@@ -1,19 +1,19 @@
 -- THEOREM: record, array and every byte of a batch's buffers are those of its items given singly, in order.
 -- Assumes nothing.
 use mathlib.Core.Path.{_≡_, refl, sym, ap, _∙_}
+use mathlib.Core.Bool.{true}
 use mathlib.Core.List.{List, [], _∷_}
 use Prim.Native.Nat.{ℕ, _+_}
 use lib.ListN.{length, replicate, length-replicate}
 use Rattle.device.specs.declared.Device.{Device}
 use Rattle.device.specs.declared.Checked.{Checked}
 use Rattle.device.specs.Chip.{chip}
-use Rattle.chip.specs.declared.Answer.{Answer}
 use Rattle.chip.specs.Outcome.{Outcome, bare}
 use Rattle.chip.specs.Events.{Chip, Good, Event, sends, waits, starts, loses, Reply, sent, after, reply, run, missed, story}
 use Rattle.chip.proofs.Events.{sent-is, after-good}
 use Rattle.chip.proofs.Rules.{Bytes}
-use Rattle.batch.specs.Items.{eventsOf}
-use Rattle.batch.specs.Batch.{wrapped, Out, carriedOut, batched, Holds, Batched}
+use Rattle.batch.specs.Items.{itemsOf, allGood, eventsOf}
+use Rattle.batch.specs.Batch.{carriedOut, batched, Holds, Batched}
 use Rattle.batch.specs.Theorems.{Single, Singly, none, more, missings, laidDown}
 use Rattle.batch.proofs.Runs.{accepted}
 use Rattle.batch.proofs.Fits.{Fits, AllFit, events-fit}
@@ -53,6 +53,10 @@ single-some (loses mask told) c t = absurd t
 pub singly-some : (es : List Event) (c : Chip) → AllFit es → Singly es c (story es c) (run es c)
 singly-some [] c t = none c
 singly-some (e ∷ es) c t = more e es c (reply e c) (story es (after e c)) (after e c) (run es (after e c)) (single-some e c (t .0)) (singly-some es (after e c) (t .1))
+
+-- so of the items of a batch
+pub items-some : (items : List ℕ) (c : Chip) → allGood (itemsOf items) ≡ true → Bytes items → Singly (eventsOf items) c (story (eventsOf items) c) (run (eventsOf items) c)
+items-some items c g b = singly-some (eventsOf items) c (events-fit items g b)
 
 missings-is : (es : List Event) (c : Chip) → missings (story es c) ≡ missed es c
 missings-is [] c = refl

@@ -1,9 +1,9 @@
 -- What follows from the promise of a batch: the record stays sound, each item answers 0 or 11 to 19, each byte of the buffers, and what lies beyond stays.
 -- Assumes nothing.
-use mathlib.Core.Path.{_≡_, refl, sym, ap, _∙_}
+use mathlib.Core.Path.{_≡_, sym, ap, _∙_}
 use mathlib.Core.Bool.{true}
 use mathlib.Core.List.{List, [], _∷_, _++_}
-use mathlib.Core.Logic.{_⊎_, inl, inr}
+use mathlib.Core.Logic.{_⊎_, inl}
 use Prim.Native.Nat.{ℕ, _+_, _-_, _≤_, _<_}
 use native.Mathlib.Nat.{zero-add}
 use native.Mathlib.Omega.{arith}
@@ -16,7 +16,7 @@ use Rattle.device.specs.declared.Checked.{Checked}
 use Rattle.device.specs.Chip.{chip}
 use Rattle.device.specs.Device.{sound}
 use Rattle.device.specs.Time.{Timed}
-use Rattle.chip.specs.Events.{Chip, Good, Event, sends, waits, starts, loses, sent, after, reply, run, story}
+use Rattle.chip.specs.Events.{Chip, Good, Event, sends, waits, starts, loses, sent, after, reply, story}
 use Rattle.chip.proofs.Events.{run-keeps, after-sound, after-good, no-refusal}
 use Rattle.chip.proofs.Power.{wait-done}
 use Rattle.chip.proofs.Rules.{Bytes, chip-answers}

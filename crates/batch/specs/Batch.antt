@@ -33,6 +33,7 @@ roomOf (waits t) = 0
 roomOf starts = 0
 roomOf (loses mask told) = 0
 
+-- and those that all events need
 abbrev pub roomFor : List Event → ℕ
 roomFor [] = 0
 roomFor (e ∷ es) = roomOf e + roomFor es

@@ -4,7 +4,6 @@ use mathlib.Core.List.{List}
 use Prim.Native.Nat.{ℕ, _+_}
 use lib.ListN.{length}
 use Rattle.slices.specs.Changed.{laid}
-use Rattle.device.specs.declared.Device.{Device}
 use Rattle.device.specs.Chip.{Chip}
 use Rattle.chip.specs.declared.Done.{Done}
 use Rattle.chip.specs.Events.{Event, after, reply, run, missed, story}

@@ -28,17 +28,22 @@ itemsFrom (x ∷ xs) (suc k) = itemsFrom xs k
 abbrev pub itemsOf : List ℕ → List (List ℕ)
 itemsOf b = itemsFrom b 0
 
+-- whether it is a wait
+abbrev pub isWait : List ℕ → Bool
+isWait i = eqb (flagIn i) 16
+
 -- an item that is not 9: not cut, and a transaction, with a flag up to 15, or a wait, with flag 16 and length 4
 unfoldable pub goodItem : List ℕ → Bool
-goodItem i = eqb (length i) (3 + lengthIn i) && (ltb (flagIn i) 16 || eqb (flagIn i) 16 && eqb (lengthIn i) 4)
+goodItem i = eqb (length i) (3 + lengthIn i) && (ltb (flagIn i) 16 || isWait i && eqb (lengthIn i) 4)
 
+-- whether all of them are
 abbrev pub allGood : List (List ℕ) → Bool
 allGood [] = true
 allGood (i ∷ is) = goodItem i && allGood is
 
 -- an item as an event: flag 16 is a wait, of the ticks in the four bytes behind it; else W is in bit 0 of the flag, the further pulses in bits 1 to 3, and the bytes behind it are sent
 unfoldable pub eventIn : List ℕ → Event
-eventIn i = cond (eqb (flagIn i) 16) (waits (wordAt i 3)) (sends (drop 3 i) (flagIn i / 2) (eqb (flagIn i % 2) 1))
+eventIn i = cond (isWait i) (waits (wordAt i 3)) (sends (drop 3 i) (flagIn i / 2) (eqb (flagIn i % 2) 1))
 
 -- the events of a batch
 abbrev pub eventsOf : List ℕ → List Event

@@ -10,8 +10,8 @@
 //! use m25p::{Chip, Durations, Part};
 //!
 //! let send = |sent| Item::Transaction { sent, pulses: 0, w_high: true };
-//! let program = Item::Wait { ticks: Durations::default().program };
-//! let day = [send(&[0x06]), send(&[0x02, 0, 0, 0x10, 0x5A]), program, send(&[0x03, 0, 0, 0x10, 0])];
+//! let wait = Item::Wait { ticks: Durations::default().program };
+//! let day = [send(&[0x06]), send(&[0x02, 0, 0, 0x10, 0x5A]), wait, send(&[0x03, 0, 0, 0x10, 0])];
 //! let mut bytes = Vec::new();
 //! for item in day {
 //!     item.append(&mut bytes)?;

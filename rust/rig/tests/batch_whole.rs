@@ -154,7 +154,7 @@ fn every_length_of_a_buffer() {
     }
 }
 
-/// Waits of every length up to 300, and of every length with a 4 in its low byte: with all their bytes, with four
+/// Waits of every length below 300, and of every length with a 4 in its low byte: with all their bytes, with four
 /// alone, and with others behind them.
 #[test]
 fn every_length_of_a_wait() {

@@ -1,12 +1,12 @@
 -- `batch::carry_all` meets its contract.
-use mathlib.Core.Path.{_≡_, ap}
+use mathlib.Core.Path.{ap}
 use Prim.Native.Nat.{ℕ, _+_, _-_}
 use native.Mathlib.Omega.{arith}
 use lib.ListN.{length}
 use Rattle.device.specs.Chip.{chip}
 use Rattle.batch.specs.Items.{eventsOf}
 use Rattle.batch.specs.Found.{carriedFrom}
-use Rattle.batch.proofs.Items.{next-some, next-fits, next-item}
+use Rattle.batch.proofs.Items.{next-fits, next-item}
 use Rattle.batch.proofs.Going.{Going, going-first, going-good, going-room, going-place, going-part, going-next, going-end}
 use borrow.Author.Needs.{needs}
 use Rattle.batch.proofs.carry_all.Statement.{statement}

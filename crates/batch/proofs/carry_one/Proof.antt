@@ -1,11 +1,10 @@
 -- `batch::carry_one` meets its contract.
-use mathlib.Core.Path.{_≡_, refl, sym, ap, _∙_}
+use mathlib.Core.Path.{_≡_, sym, _∙_}
 use Prim.Native.Nat.{_-_, _≤_}
 use native.Mathlib.Nat.{le-refl}
 use native.Mathlib.Omega.{arith}
 use lib.ListN.{length, take, drop, length-drop}
 use lib.Seq.{take-all}
-use Rattle.slices.specs.Bytes.{wordAt}
 use Rattle.device.specs.Chip.{chip}
 use Rattle.batch.specs.Items.{lengthIn, flagIn}
 use Rattle.batch.proofs.One.{item-long, one-waits, one-sends}

@@ -49,7 +49,7 @@ pub fn sees<S: Source>(name: &str, rules: Rules, plan: &Plan, parts: &[usize], e
 pub fn assert_often(what: &str, times: &[u64], numbers: impl IntoIterator<Item = u8>) {
     for number in numbers {
         let times = times[usize::from(number)];
-        assert!(times >= OFTEN, "{what} {number:#04X} came {times} times only");
+        assert!(times >= OFTEN, "{what} {number} ({number:02X}) came {times} times only");
     }
 }
 
