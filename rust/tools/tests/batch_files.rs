@@ -9,6 +9,7 @@ mod common;
 
 use std::fs;
 use std::os::unix::fs::symlink;
+use std::path::Path;
 
 use batch::{bytes_of, printed, sends, Desk};
 use m25p::batch::Item;
@@ -183,4 +184,17 @@ fn help() {
     for words in [["write", "--help"], ["list", "--help"], ["run", "--help"]] {
         assert_eq!(desk.prints(&words), help);
     }
+}
+
+/// The listing on the front page is what its commands print.
+#[test]
+fn the_front_page() {
+    let root = Path::new(env!("CARGO_MANIFEST_DIR")).join("../..");
+    let page = fs::read_to_string(root.join("README.md")).unwrap();
+    let (_, behind) = page.split_once("-- run M25P40 day.batch\n```\n\n```\n").unwrap();
+    let (listing, _) = behind.split_once("```").unwrap();
+    let desk = Desk::new("front_page");
+    let lines = root.join("examples/first.txt");
+    desk.prints(&["write", lines.to_str().unwrap(), "day.batch"]);
+    assert_eq!(desk.prints(&["run", "M25P40", "day.batch"]), listing);
 }
