@@ -8,11 +8,11 @@ use parts::{assert_chip_often, assert_often, compared, sees, Plan, OFTEN, SEED};
 use rig::compare::{Call, Pair, Rules, Seen, Source, Step, Tally, PAPER};
 use rig::faults;
 use rig::model::{Packed, RECORD_BYTES, SMALL};
+use rig::number;
 use rig::pins_generate::PinsGenerator;
 use rig::pins_model::End;
 use rig::plain_pins;
 use rig::rng::Rng;
-use rig::number;
 use tools::pins::Ends;
 
 const DEFAULT_RUNS: u64 = 20_000;
