@@ -2,8 +2,8 @@
 -- Assumes nothing.
 use mathlib.Core.Path.{_≡_}
 use mathlib.Core.Bool.{Bool, not, _&&_, _||_}
-use mathlib.Core.List.{List}
-use Prim.Native.Nat.{ℕ, _/_, _%_, _≤_, _<_}
+use mathlib.Core.List.{List, [], _∷_}
+use Prim.Native.Nat.{ℕ, _*_, _/_, _%_, _≤_, _<_}
 use native.Mathlib.Omega.{arith}
 use lib.Dec.{eqb, ltb, lit≤}
 use lib.ListN.{length}
@@ -23,9 +23,14 @@ use Rattle.pins.specs.Run.{runAnswer, answerOf}
 use Rattle.pins.proofs.Runs as pins
 use Rattle.batch.specs.Items.{itemsOf, allGood, eventsOf}
 use Rattle.batch.specs.Batch.{roomFor, missingBytes, batchNumber}
+use Rattle.image.specs.declared.Reply.{Reply}
+use Rattle.image.specs.Images.{badPlaces}
+use Rattle.image.specs.Calls.{blocksOf, copyNumber, salvageNumber, foundBad, readReply, salvageReply}
+use Rattle.image.proofs.Calls.{read-few, salvage-few}
 use Rattle.m25p.specs.Calls.{packedAnswer, high, transactedC, Called, timedC, CalledOn, deliveryC, DeliveredC}
 use Rattle.m25p.specs.Pins.{pinsC, RanC}
 use Rattle.m25p.specs.Batch.{batchC, BatchedC}
+use Rattle.m25p.specs.Image.{withBlocks, WrittenC, ReadC, SalvagedC}
 
 -- bits 0 to 7, 8 to 15, 16 to 47 and 48 to 63 are the answer's numbers, and there are no bits above
 pub record Apart (r : ℕ) (a : Answer) : Type 0 where
@@ -135,3 +140,44 @@ batch-apart packed array items responses answers missing b =
     (cond-ind P (not (allGood (itemsOf items))) (lit≤ tt)
     (cond-ind P (ltb (length responses) (roomFor (eventsOf items)) || ltb (length answers) (length (eventsOf items)) || ltb (length missing) missingBytes) (lit≤ tt) (lit≤ tt)))))
     (omega (arith, unpack-few packed)))
+
+-- ---- images
+
+-- the writer answers at most 32
+copy-few : (part array image : ℕ) → copyNumber part array image ≤ 41
+unfolding copyNumber
+copy-few part array image =
+    let P : ℕ → Type 0 = λ k. k ≤ 41 in
+    cond-ind P (not (knownPart part)) (lit≤ tt)
+    (cond-ind P (not (eqb image (blocksOf part * 512))) (lit≤ tt) (cond-ind P (not (eqb array (figuresOf part .bytes))) (lit≤ tt) (lit≤ tt)))
+
+pub write-apart : (part : ℕ) (array image : List ℕ) {r : ℕ} {image′ : List ℕ} → WrittenC part array image r image′ → Apart r (bare (copyNumber part (length array) (length image)))
+write-apart part array image w = apart-bare (w .answer) (copy-few part (length array) (length image))
+
+-- a number of blocks stands where a transaction has its driven count
+apart-blocks : {r : ℕ} {k : Reply} → r ≡ packedAnswer (withBlocks k) → k .answer ≤ 41 → k .blocks ≤ 33289 → Apart r (withBlocks k)
+unfolding withBlocks
+apart-blocks {r} {k} e h l = rw e (apart (withBlocks k) (omega arith) (omega arith) (omega arith) (omega arith))
+
+-- the reader
+found-few : (xs : List ℕ) → foundBad xs .answer ≤ 41
+found-few [] = lit≤ tt
+found-few (p ∷ ps) = lit≤ tt
+
+pub read-apart : (part : ℕ) (image array : List ℕ) {r : ℕ} {array′ : List ℕ} → ReadC part image array r array′ → Apart r (withBlocks (readReply part image (length array)))
+unfolding readReply
+read-apart part image array d =
+    apart-blocks (d .answer)
+    (zero-ind (λ (k : Reply). k .answer ≤ 41) (copyNumber part (length array) (length image)) (found-few (badPlaces image (blocksOf part))) (copy-few part (length array) (length image)))
+    (read-few part image (length array))
+
+-- salvage
+pub salvage-apart : (part : ℕ) (image list : List ℕ) {r : ℕ} {image′ list′ : List ℕ} → SalvagedC part image list r image′ list′ → Apart r (withBlocks (salvageReply part image (length list)))
+unfolding salvageReply salvageNumber
+salvage-apart part image list d =
+    let P : ℕ → Type 0 = λ k. k ≤ 41 in
+    apart-blocks (d .answer)
+    (zero-ind (λ (k : Reply). k .answer ≤ 41) (salvageNumber part (length image) (length list)) (lit≤ tt)
+    (cond-ind P (not (knownPart part)) (lit≤ tt)
+    (cond-ind P (not (eqb (length image) (blocksOf part * 512))) (lit≤ tt) (cond-ind P (ltb (length list / 8) (blocksOf part)) (lit≤ tt) (lit≤ tt)))))
+    (salvage-few part image (length list))

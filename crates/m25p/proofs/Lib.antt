@@ -2,4 +2,5 @@
 pub mod Laws
 pub mod Pins
 pub mod Batch
+pub mod Image
 pub mod Apart

@@ -2,3 +2,4 @@
 pub mod Calls
 pub mod Pins
 pub mod Batch
+pub mod Image

@@ -1,6 +1,6 @@
-// The C calls: delivery, transaction, wait, power-up, power loss, raw pins and a batch over the packed bytes of a record.
+// The C calls: delivery, transaction, wait, power-up, power loss, raw pins and a batch over the packed bytes of a record; and images.
 ghost use mathlib.Core.Path.{_≡_};
-ghost use Prim.Native.Nat.{_≤_};
+ghost use Prim.Native.Nat.{_≤_, _<_};
 ghost use Rattle.memory.specs.Missing.{mostMissing};
 ghost use Rattle.slices.specs.Chosen.{onZero};
 ghost use Rattle.slices.specs.Changed.{mapAt, stored};
@@ -9,11 +9,13 @@ ghost use Rattle.device.specs.Time.{waitCall, powerUpCall, lossCall};
 ghost use Rattle.m25p.specs.Calls.{packedAnswer, transactedC, Called, high, timedC, CalledOn, DeliveredC};
 ghost use Rattle.m25p.specs.Pins.{RanC};
 ghost use Rattle.m25p.specs.Batch.{BatchedC};
+ghost use Rattle.m25p.specs.Image.{withBlocks, WrittenC, ReadC, SalvagedC};
 ghost use Rattle.chip.specs.Outcome;
 use chip::Answer;
 use device::Device;
 use device::packing::LENGTH;
 use device::packing::unpack;
+use image::Reply;
 
 // The four numbers of an answer in 64 bits.
 fn packed_answer(answer: Answer) -> u64
@@ -164,4 +166,41 @@ pub extern "C" fn m25p_batch(
     let done = batch::run(came.device, array, items, responses, answers, missing);
     store(done.answer, done.device, packed);
     bare(done.answer)
+}
+
+// An answer with a number of blocks where a transaction has its driven count.
+fn blocks_answer(reply: Reply) -> u64
+    requires { ⌜ reply .blocks < 4294967296 ⌝ }
+    ensures { λ r. ⌜ r ≡ packedAnswer (withBlocks reply) ⌝ }
+{
+    packed_answer(Answer {
+        number: reply.answer,
+        first: 0,
+        count: reply.blocks as u32,
+        missing: 0,
+    })
+}
+
+// Writes the image of an array.
+#[no_mangle]
+pub extern "C" fn m25p_image_write(part: u32, array: &[u8], image: &mut [u8]) -> u64
+    ensures { λ r. ⌜ WrittenC part (now (array .entry)) (now (image .entry)) r (now (image .exit)) ⌝ }
+{
+    bare(image::write(part, array, image))
+}
+
+// Reads the array of an image whose blocks are all good.
+#[no_mangle]
+pub extern "C" fn m25p_image_read(part: u32, image: &[u8], array: &mut [u8]) -> u64
+    ensures { λ r. ⌜ ReadC part (now (image .entry)) (now (array .entry)) r (now (array .exit)) ⌝ }
+{
+    blocks_answer(image::read(part, image, array))
+}
+
+// Salvages an image, and lists the blocks that were bad.
+#[no_mangle]
+pub extern "C" fn m25p_image_salvage(part: u32, image: &mut [u8], list: &mut [u8]) -> u64
+    ensures { λ r. ⌜ SalvagedC part (now (image .entry)) (now (list .entry)) r (now (image .exit)) (now (list .exit)) ⌝ }
+{
+    blocks_answer(image::salvage(part, image, list))
 }

@@ -2,7 +2,7 @@
 -- Assumes nothing.
 use mathlib.Core.Path.{_≡_, refl, sym, ap, _∙_}
 use mathlib.Core.Bool.{Bool, true, false, cond}
-use mathlib.Core.List.{List, _++_}
+use mathlib.Core.List.{List, [], _++_}
 use Prim.Native.Nat.{ℕ, _+_, _-_, _<_, _≤_, min}
 use native.Mathlib.Nat.{zero-add}
 use native.Mathlib.Omega.{arith}
@@ -12,7 +12,8 @@ use lib.Dec.{leb}
 use lib.ListN.{length, getD, take, drop, List·getD-append, List·getD-eq-default}
 use lib.Seq.{getD-append-add}
 use Rattle.slices.specs.Changed.{mapAt, window, stored}
-use Rattle.slices.proofs.Maps.{map-then, map-ext, map-agree, map-is, getD-any}
+use Rattle.slices.proofs.Choices.{cond-ind}
+use Rattle.slices.proofs.Maps.{map-then, map-ext, map-same, map-agree, map-is, getD-any}
 use Rattle.slices.proofs.Windows.{window-in, window-below}
 use Rattle.slices.proofs.Parts.{lent-map}
 
@@ -61,3 +62,8 @@ store-next at p q xs e l f = store-behind 0 at p q xs e (zero-add (length p) ∙
 pub stored-whole : (p xs : List ℕ) → length p ≡ length xs → mapAt (stored 0 p) xs ≡ p
 unfolding stored
 stored-whole p xs e = sym (map-is _ xs p e (λ i h. let z : i - 0 ≡ i = omega arith in rw (le-leb 0 i (omega arith), z) (getD-any p i 0 (getD xs i 0) (omega arith))))
+
+-- nothing stored
+pub stored-none : (a : ℕ) (xs : List ℕ) → xs ≡ mapAt (stored a []) xs
+unfolding stored
+stored-none a xs = sym (map-ext _ _ (λ i x. cond-ind (λ (y : ℕ). y ≡ x) (leb a i) refl refl) xs ∙ map-same xs)

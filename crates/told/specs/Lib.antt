@@ -1,4 +1,4 @@
--- The definitions of `slices`, `parts`, `memory`, `device`, `chip`, `batch` and `m25p` told a second time: literal numbers, written from the paper and computed by the checker.
+-- The definitions of `slices`, `parts`, `memory`, `device`, `chip`, `batch`, `image` and `m25p` told a second time: literal numbers, written from the paper and computed by the checker.
 pub mod Figures
 pub mod Cycles
 pub mod Record
@@ -22,3 +22,4 @@ pub mod Locks
 pub mod Locked
 pub mod PeCalls
 pub mod Batches
+pub mod Images
