@@ -1,8 +1,10 @@
 /* m25p.h - the C calls of a software stand-in for M25P and M25PE serial flash chips (libm25p.a).
  *
  * A chip is two buffers that you own: a packed record of 304 bytes (the settings, the mode and a running
- * cycle) and the memory array (its contents). Each call is lent both, changes them in place and returns
- * one 64-bit answer. Nothing is allocated, and between calls nothing is remembered but in these two.
+ * cycle) and the memory array (its contents). Each call on a chip is lent both, changes them in place and
+ * returns one 64-bit answer. The three m25p_image calls are lent no record: they carry an array to an image,
+ * which is for a disk, and back, and save what is left of a damaged image. Nothing is allocated, and between
+ * calls nothing is remembered but in your buffers.
  *
  * Parts
  *
@@ -67,7 +69,8 @@
  *
  *   bits 0-7     answer number, see enum m25p_number
  *   bits 8-15    first driven position: the first byte of the response that the chip drove
- *   bits 16-47   driven count: how many bytes of the response the chip drove
+ *   bits 16-47   driven count: how many bytes of the response the chip drove; of m25p_image_read and
+ *                m25p_image_salvage a block, or a number of blocks, see m25p_blocks
  *   bits 48-63   bits missing: how many bits an executed page program wanted 1 that were 0 in the array
  *                before, and so stayed 0; 0 to 2,048
  *
@@ -79,6 +82,10 @@
  *   m25p_wait, m25p_power_up and m25p_loss. m25p_pins gives the sum over its transactions; m25p_batch gives
  *   it in a buffer of its own, and its answer is the number alone. They are counted as the program starts,
  *   on the array that is lent to that call.
+ *
+ *   The m25p_image calls drive and program nothing. Bits 16-47 are the first bad block where m25p_image_read
+ *   answers 33, and how many blocks were changed where m25p_image_salvage answers 0; all else is 0 but the
+ *   number.
  *
  *   What the bits missing are good for: a program can only make a 1 a 0. Where it wants a 1 and the array
  *   holds a 0, the 0 stays, the answer number is 0 all the same, and the page does not hold what was
@@ -92,7 +99,8 @@
  *   check:
  *   - Buffers lent to one call must not overlap.
  *   - No buffer may be longer than PTRDIFF_MAX bytes.
- *   - One chip is used by one thread at a time. Different chips are independent.
+ *   - One chip is used by one thread at a time, and so is an image or a list that is written. Different
+ *     ones are independent.
  */
 #ifndef M25P_H
 #define M25P_H
@@ -119,6 +127,20 @@ extern "C" {
 #define M25P_PIN_HOLD 0x10u          /* low to hold */
 #define M25P_PINS_AT_REST 0x19u      /* Select, W and Hold high, clock and data low */
 
+/* Images, see m25p_image_write. */
+#define M25P_BLOCK_BYTES 512u        /* a block of an image */
+#define M25P_BLOCK_HEAD 8u           /* its number and its sums */
+#define M25P_BLOCK_ARRAY 504u        /* the bytes of the array in it */
+#define M25P_LIST_PLACE 8u           /* a place in the list of a salvage */
+#define M25P_REASON_NUMBER 1u        /* in that list: the block's number was wrong */
+#define M25P_REASON_SUMS 2u          /* its number was right, and a sum was wrong */
+
+/* For an array of so many bytes: the blocks of its image, the image's length, and the length of a list that
+ * is enough for any image of it. */
+#define M25P_BLOCKS(array_bytes) (((array_bytes) + M25P_BLOCK_ARRAY - 1u) / M25P_BLOCK_ARRAY)
+#define M25P_IMAGE_BYTES(array_bytes) (M25P_BLOCKS(array_bytes) * M25P_BLOCK_BYTES)
+#define M25P_LIST_BYTES(array_bytes) (M25P_BLOCKS(array_bytes) * M25P_LIST_PLACE)
+
 #define M25P_NOT_DRIVEN 2u           /* an output byte of raw pins; a driven one is 0 or 1 */
 
 enum m25p_part {
@@ -143,9 +165,9 @@ enum m25p_part {
 #define M25P_WRITE_LOCK 0x01u        /* nothing is written, programmed or erased in the sector */
 #define M25P_LOCK_DOWN 0x02u         /* the register is frozen until power-up or a power loss */
 
-/* Answer numbers. On 1 to 10, 21 to 23 and 41 the call was refused and has written nothing anywhere. On 11
- * to 19 the chip ignored the transaction: record and array stay, the latch included, and the response is
- * all FF. */
+/* Answer numbers. On 1 to 10, 21 to 23, 31 to 34 and 41 the call was refused and has written nothing
+ * anywhere. On 11 to 19 the chip ignored the transaction: record and array stay, the latch included, and the
+ * response is all FF. "All" are the calls that take such an argument. */
 enum m25p_number {
     M25P_EXECUTED = 0,          /* done */
 
@@ -174,6 +196,11 @@ enum m25p_number {
     M25P_PINS_LENGTH = 22,      /* pins: a transaction of more than 65,536 bytes */
     M25P_OUTPUT_LENGTH = 23,    /* pins: output_len below samples_len */
 
+    M25P_IMAGE_PART = 31,       /* image_write, image_read, image_salvage: part above 6 */
+    M25P_IMAGE_LENGTH = 32,     /* the same: image_len is not the part's block count times 512 */
+    M25P_BAD_BLOCK = 33,        /* image_read: a block's number or sums are wrong */
+    M25P_LIST_ROOM = 34,        /* image_salvage: fewer list places than blocks */
+
     M25P_MASK_LENGTH = 41       /* loss: mask_len is not 256 */
 };
 
@@ -184,6 +211,9 @@ enum m25p_number {
  *   m25p_loss                 8, 6, 2, 41
  *   m25p_pins                 8, 6, 2, 21, 22, 23
  *   m25p_batch                8, 6, 2, 9, 10
+ *   m25p_image_write          31, 32, 2
+ *   m25p_image_read           31, 32, 2, 33
+ *   m25p_image_salvage        31, 32, 34
  */
 
 /* A part as it comes from the factory: the array all FF, BP 0, SRWD 0, latch reset, lock registers 0,
@@ -252,7 +282,7 @@ uint64_t m25p_deliver(uint8_t *record, size_t record_len, uint32_t part,
  * Hardware protection of parts 0 to 5: starting from a standby record with SRWD set, as long as w is 0 in
  * every transaction (in m25p_pins, as long as W is low in every sample in which Select rises; in m25p_batch,
  * as long as bit 0 of every transaction's flag byte is 0), no call but m25p_deliver changes BP, SRWD or a
- * byte of a protected sector, power losses included. One WRSR with W high may undo it, and so may one with
+ * byte of a protected sector, power losses included; m25p_image_read fills whichever array it is lent. One WRSR with W high may undo it, and so may one with
  * W low where SRWD is not set, or one that was running at the start. Sectors that BP leaves free are
  * programmed and erased as ever.
  *
@@ -376,6 +406,64 @@ uint64_t m25p_batch(uint8_t *record, size_t record_len,
                     uint8_t *answers, size_t answers_len,
                     uint8_t *missing, size_t missing_len);
 
+/* Writes the image of an array, to be kept on a disk. An image is blocks of 512 bytes, as many as hold the
+ * array:
+ *
+ *   bytes 0-3    the block's number: its place in the image, from 0 on
+ *   bytes 4-5    first sum: starts at the number modulo 65,536 and adds each of the bytes 8-511
+ *   bytes 6-7    second sum: starts at 0 and adds the first sum after each of them
+ *   bytes 8-511  504 bytes of the array; the last block is filled up with FF
+ *
+ * Number and sums are little-endian, and both sums are modulo 65,536:
+ *
+ *   uint16_t first = (uint16_t)number, second = 0;
+ *   for (int i = 8; i < 512; i++) {
+ *       first += block[i];
+ *       second += first;
+ *   }
+ *
+ *   part     array bytes  blocks  image bytes  list bytes
+ *   0              4,096       9        4,608          72
+ *   1 and 5      131,072     261      133,632       2,088
+ *   2 and 6      524,288   1,041      532,992       8,328
+ *   3          4,194,304   8,323    4,261,376      66,584
+ *   4         16,777,216  33,289   17,043,968     266,312
+ *
+ * The array stays as it is, and every byte of the image is written, whatever it held. Only the array is in
+ * an image: settings, lock registers and a running cycle are in the record, which is yours to keep. The part
+ * is not in it either: parts of one size read each other's images.
+ *
+ * A block is good if its number is its place and both sums are right. What fills up the last block need not
+ * be FF; its sums count it as it stands. The sums see most damage, not all: 512 bytes 00 are a good block in
+ * place 0, and a block whose bytes 100 to 102 become 1 more, 2 less and 1 more keeps both its sums. */
+uint64_t m25p_image_write(uint32_t part, const uint8_t *array, size_t array_len,
+                          uint8_t *image, size_t image_len);
+
+/* Reads an image back into an array. If all blocks are good, the answer is 0, and the array is the one that
+ * was written; what fills up the last block is dropped. Otherwise the answer is 33, m25p_blocks is the place
+ * of the first bad block, whatever number stands in it, and the array stays as it is, the bytes of good
+ * blocks before it, too. The image stays in any case. */
+uint64_t m25p_image_read(uint32_t part, const uint8_t *image, size_t image_len,
+                         uint8_t *array, size_t array_len);
+
+/* Saves what is left of a damaged image: the 504 bytes of each bad block become FF, and it gets a right
+ * number and right sums. A good block is never changed. So the image can be read afterwards, and a second
+ * salvage changes nothing. m25p_blocks is how many blocks were changed, 0 for none.
+ *
+ * list: for each changed block, in order from the first place on and without gaps, a place of 8 bytes:
+ *
+ *   bytes 0-3    the block, by its place in the image
+ *   bytes 4-7    the reason: 1 (M25P_REASON_NUMBER) if its number was wrong, whatever its sums were, 2
+ *                (M25P_REASON_SUMS) if its number was right and a sum was wrong
+ *
+ * Both are little-endian. What lies behind the last place used is left as it is. Of the array, block b held
+ * the bytes from 504 * b on, 504 of them or those up to its end.
+ *
+ * 34 goes by whole places, list_len / 8, which must not be fewer than the blocks of the image, however few
+ * of them are bad: M25P_LIST_BYTES of the array's size suffices. Longer lists are good. */
+uint64_t m25p_image_salvage(uint32_t part, uint8_t *image, size_t image_len,
+                            uint8_t *list, size_t list_len);
+
 /* The answer number, one of enum m25p_number: the test for executed. */
 static inline unsigned m25p_answer(uint64_t answer)
 {
@@ -390,6 +478,12 @@ static inline unsigned m25p_first(uint64_t answer)
 
 /* The driven count. */
 static inline uint32_t m25p_count(uint64_t answer)
+{
+    return (uint32_t)((answer >> 16) & 0xFFFFFFFFu);
+}
+
+/* The first bad block of m25p_image_read with 33, or how many blocks m25p_image_salvage has changed. */
+static inline uint32_t m25p_blocks(uint64_t answer)
 {
     return (uint32_t)((answer >> 16) & 0xFFFFFFFFu);
 }

@@ -88,6 +88,12 @@ static uint64_t call(const struct request *r)
         return m25p_loss(S(0), S(1), S(2), N(0));
     case 6:
         return m25p_batch(S(0), S(1), S(2), S(3), S(4), S(5));
+    case 7:
+        return m25p_image_write(N(0), S(0), S(1));
+    case 8:
+        return m25p_image_read(N(0), S(0), S(1));
+    case 9:
+        return m25p_image_salvage(N(0), S(0), S(1));
     default:
         fprintf(stderr, "bridge: there is no call %u\n", (unsigned)r->call);
         exit(1);

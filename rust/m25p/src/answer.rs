@@ -55,13 +55,21 @@ pub enum Answer {
     PinsLength = 22,
     /// Raw pins: the output is shorter than the samples.
     OutputLength = 23,
+    /// Image: no such part.
+    ImagePart = 31,
+    /// Image: its length is not the part's, see [`Part::image_bytes`](crate::Part::image_bytes).
+    ImageLength = 32,
+    /// Image: a block's number or sums are wrong; [`Reply::blocks`] is the first such block's place.
+    BadBlock = 33,
+    /// Image: the list of a salvage has fewer places than the image has blocks.
+    ListRoom = 34,
     /// Power loss: the mask is not [`MASK_BYTES`](crate::MASK_BYTES) long.
     MaskLength = 41,
 }
 
 impl Answer {
     /// All answers, by number.
-    pub const ALL: [Answer; 24] = [
+    pub const ALL: [Answer; 28] = [
         Answer::Executed,
         Answer::UnknownPart,
         Answer::ArrayLength,
@@ -85,6 +93,10 @@ impl Answer {
         Answer::SampleBits,
         Answer::PinsLength,
         Answer::OutputLength,
+        Answer::ImagePart,
+        Answer::ImageLength,
+        Answer::BadBlock,
+        Answer::ListRoom,
         Answer::MaskLength,
     ];
 
@@ -136,6 +148,10 @@ impl Answer {
             Answer::SampleBits => "a sample has one of the bits 5 to 7 set",
             Answer::PinsLength => "a transaction has more than 65,536 bytes",
             Answer::OutputLength => "the output is shorter than the samples",
+            Answer::ImagePart => "there is no such part that an image could be of",
+            Answer::ImageLength => "the image's length is not the part's",
+            Answer::BadBlock => "a block of the image is bad: its number or its sums are wrong",
+            Answer::ListRoom => "the list has fewer places than the image has blocks",
             Answer::MaskLength => "the mask is not 256 bytes long",
         }
     }
@@ -152,7 +168,8 @@ impl std::error::Error for Answer {}
 /// The most bits that can be missing: those of a page.
 const MOST_MISSING: u32 = 2_048;
 
-/// The 64 bits that a call returns: the answer, for a transaction what was driven, and the bits missing.
+/// The 64 bits that a call returns: the answer, for a transaction what was driven, the bits missing, and for an image
+/// a block's place or how many blocks were changed.
 #[derive(Clone, Copy, Debug, PartialEq, Eq)]
 pub struct Reply(u64);
 
@@ -188,6 +205,12 @@ impl Reply {
     /// The driven count.
     pub const fn count(self) -> usize {
         (self.0 >> 16) as u32 as usize
+    }
+
+    /// Of an image that was read, where the answer is [`Answer::BadBlock`]: the place of the first bad block. Of an
+    /// image that was salvaged: how many blocks were changed. The same bits as the driven count of a transaction.
+    pub const fn blocks(self) -> usize {
+        self.count()
     }
 
     /// The bits missing: how many a page program wanted 1 that were 0 in the array. Above 0, an erase should

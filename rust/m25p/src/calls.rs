@@ -1,7 +1,8 @@
 //! The C calls on slices of any length: the same arguments in the same order, and the same 64 bits.
 //!
-//! [`Chip`](crate::Chip) is what most programs want. These are for records and arrays that are kept
-//! elsewhere, and for those that may be wrong: whatever is passed is checked and answered.
+//! [`Chip`](crate::Chip) is what most programs want, and [`image`](crate::image) for images of a chip's contents. These
+//! are for records, arrays and images that are kept elsewhere, and for those that may be wrong: whatever is passed is
+//! checked and answered.
 
 use crate::library;
 use crate::{Durations, Reply};
@@ -65,4 +66,24 @@ pub fn batch(
     missing: &mut [u8],
 ) -> Reply {
     Reply::new(library::batch(record, array, items, responses, answers, missing))
+}
+
+/// Writes the array as an image of the part with this number (see [`image`](crate::image)), of
+/// [`Part::image_bytes`](crate::Part::image_bytes) bytes. Answers 31, 32, 2.
+pub fn image_write(part: u32, array: &[u8], image: &mut [u8]) -> Reply {
+    Reply::new(library::image_write(part, array, image))
+}
+
+/// Reads an image back into an array, if all its blocks are good. [`Reply::blocks`] is the place of the first bad one,
+/// where one is; the array stays as it is then. Answers 31, 32, 2, 33.
+pub fn image_read(part: u32, image: &[u8], array: &mut [u8]) -> Reply {
+    Reply::new(library::image_read(part, image, array))
+}
+
+/// Makes every bad block of an image a good one of FF, and leaves the good ones as they are. [`Reply::blocks`] is how
+/// many were bad. The list gets for each of them, in order, its place and the reason (1 its number, 2 its sums), 32
+/// bits little-endian each; what lies behind stays. It has to have a place of eight bytes for every block of the image,
+/// however few are bad. Answers 31, 32, 34.
+pub fn image_salvage(part: u32, image: &mut [u8], list: &mut [u8]) -> Reply {
+    Reply::new(library::image_salvage(part, image, list))
 }

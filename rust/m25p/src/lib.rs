@@ -43,6 +43,9 @@
 //! A day's transactions and waits can be given as one row of bytes ([`Chip::batch`]), which the module
 //! [`batch`] writes and reads.
 //!
+//! A chip's contents can be kept on disk as an image, whose blocks have sums; where some of it is damaged, the rest can
+//! be saved (module [`image`]).
+//!
 //! The functions in [`calls`] are the C calls themselves, on slices of any length.
 //!
 //! `libm25p.a` is for x86-64 and is linked there: the build takes it from `M25P_LIB_DIR`, or from
@@ -59,6 +62,7 @@ pub mod calls;
 mod chip;
 mod cycle;
 mod durations;
+pub mod image;
 mod part;
 pub mod pins;
 

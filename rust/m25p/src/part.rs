@@ -3,6 +3,8 @@
 use std::fmt;
 use std::str::FromStr;
 
+use crate::image;
+
 /// A part that a [`Chip`](crate::Chip) can be delivered as.
 #[derive(Clone, Copy, Debug, PartialEq, Eq, Hash)]
 pub enum Part {
@@ -72,6 +74,16 @@ impl Part {
     /// The size of the array.
     pub const fn bytes(self) -> usize {
         self.row().bytes
+    }
+
+    /// How many blocks an [image](crate::image) of it has.
+    pub const fn blocks(self) -> usize {
+        self.bytes().div_ceil(image::ARRAY_BYTES)
+    }
+
+    /// The length of an [image](crate::image) of it.
+    pub const fn image_bytes(self) -> usize {
+        self.blocks() * image::BLOCK_BYTES
     }
 
     /// The highest value of the block protect bits BP.

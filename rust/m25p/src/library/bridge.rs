@@ -21,6 +21,9 @@ const POWER_UP: u32 = 3;
 const PINS: u32 = 4;
 const LOSS: u32 = 5;
 const BATCH: u32 = 6;
+const IMAGE_WRITE: u32 = 7;
+const IMAGE_READ: u32 = 8;
+const IMAGE_SALVAGE: u32 = 9;
 
 pub fn deliver(record: &mut [u8], part: u32, array: &mut [u8], durations: [u32; 4]) -> u64 {
     let [program, sector_erase, bulk_erase, write_status] = durations;
@@ -71,6 +74,18 @@ pub fn batch(
     let (items, responses) = (Lent::Kept(items), Lent::Changed(responses));
     let (answers, missing) = (Lent::Changed(answers), Lent::Changed(missing));
     call(BATCH, &[], &mut [record, array, items, responses, answers, missing])
+}
+
+pub fn image_write(part: u32, array: &[u8], image: &mut [u8]) -> u64 {
+    call(IMAGE_WRITE, &[part], &mut [Lent::Kept(array), Lent::Changed(image)])
+}
+
+pub fn image_read(part: u32, image: &[u8], array: &mut [u8]) -> u64 {
+    call(IMAGE_READ, &[part], &mut [Lent::Kept(image), Lent::Changed(array)])
+}
+
+pub fn image_salvage(part: u32, image: &mut [u8], list: &mut [u8]) -> u64 {
+    call(IMAGE_SALVAGE, &[part], &mut [Lent::Changed(image), Lent::Changed(list)])
 }
 
 /// The one form of a call: which it is, its numbers, and its slices, each in the order of the C call's

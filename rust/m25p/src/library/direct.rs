@@ -65,6 +65,27 @@ extern "C" {
         missing: *mut u8,
         missing_len: usize,
     ) -> u64;
+    fn m25p_image_write(
+        part: u32,
+        array: *const u8,
+        array_len: usize,
+        image: *mut u8,
+        image_len: usize,
+    ) -> u64;
+    fn m25p_image_read(
+        part: u32,
+        image: *const u8,
+        image_len: usize,
+        array: *mut u8,
+        array_len: usize,
+    ) -> u64;
+    fn m25p_image_salvage(
+        part: u32,
+        image: *mut u8,
+        image_len: usize,
+        list: *mut u8,
+        list_len: usize,
+    ) -> u64;
 }
 
 /// Bytes that a call is lent without a copy: any bytes are.
@@ -174,5 +195,19 @@ pub fn batch(
             missing.as_mut_ptr(),
             missing.len(),
         )
+    }
+}
+
+pub fn image_write(part: u32, array: &[u8], image: &mut [u8]) -> u64 {
+    unsafe { m25p_image_write(part, array.as_ptr(), array.len(), image.as_mut_ptr(), image.len()) }
+}
+
+pub fn image_read(part: u32, image: &[u8], array: &mut [u8]) -> u64 {
+    unsafe { m25p_image_read(part, image.as_ptr(), image.len(), array.as_mut_ptr(), array.len()) }
+}
+
+pub fn image_salvage(part: u32, image: &mut [u8], list: &mut [u8]) -> u64 {
+    unsafe {
+        m25p_image_salvage(part, image.as_mut_ptr(), image.len(), list.as_mut_ptr(), list.len())
     }
 }
