@@ -5,7 +5,7 @@
 #include <stdio.h>
 #include <string.h>
 
-#include "m25p.h"
+#include "blocks.h"
 
 enum { MOST_POINTERS = 6, MOST_NUMBERS = 7, ROOM = 262144, CLOCKED = 83 };
 
@@ -24,6 +24,7 @@ struct call {
 
 static uint8_t room[MOST_POINTERS][ROOM];
 static uint8_t after[MOST_POINTERS][ROOM];
+static uint8_t plain[ROOM];
 
 static uint64_t deliver(uint8_t *const p[], const uint64_t n[])
 {
@@ -58,6 +59,21 @@ static uint64_t pins(uint8_t *const p[], const uint64_t n[])
 static uint64_t batch(uint8_t *const p[], const uint64_t n[])
 {
     return m25p_batch(p[0], n[0], p[1], n[1], p[2], n[2], p[3], n[3], p[4], n[4], p[5], n[5]);
+}
+
+static uint64_t image_write(uint8_t *const p[], const uint64_t n[])
+{
+    return m25p_image_write(n[0], p[0], n[1], p[1], n[2]);
+}
+
+static uint64_t image_read(uint8_t *const p[], const uint64_t n[])
+{
+    return m25p_image_read(n[0], p[0], n[1], p[1], n[2]);
+}
+
+static uint64_t image_salvage(uint8_t *const p[], const uint64_t n[])
+{
+    return m25p_image_salvage(n[0], p[0], n[1], p[1], n[2]);
 }
 
 static void set(struct call *call, int numbers, const uint64_t *number)
@@ -235,6 +251,51 @@ static int right_batch(const struct call *call)
         && memcmp(room[5], missing, 8) == 0 && room[5][8] == 0x5E;
 }
 
+enum { BYTES = M25P_M25P10A_BYTES, IMAGE = M25P_IMAGE_BYTES(M25P_M25P10A_BYTES) };
+
+/* The array is all 59, as its room is. */
+static void prepare_image_write(struct call *call)
+{
+    set(call, 3, (const uint64_t[]){1, BYTES, IMAGE});
+}
+
+static int right_image_write(const struct call *call)
+{
+    put_image(plain, room[0], BYTES);
+    return call->answer == 0 && memcmp(room[1], plain, IMAGE) == 0 && room[1][IMAGE] == 0x5A;
+}
+
+/* The image of an array that is all 3C. */
+static void prepare_image_read(struct call *call)
+{
+    set(call, 3, (const uint64_t[]){1, IMAGE, BYTES});
+    memset(plain, 0x3C, BYTES);
+    put_image(room[0], plain, BYTES);
+}
+
+static int right_image_read(const struct call *call)
+{
+    return call->answer == 0 && memcmp(room[1], plain, BYTES) == 0 && room[1][BYTES] == 0x5A;
+}
+
+/* The same, with another number in its second block. */
+static void prepare_image_salvage(struct call *call)
+{
+    prepare_image_read(call);
+    set(call, 3, (const uint64_t[]){1, IMAGE, M25P_LIST_BYTES(BYTES)});
+    room[0][512] = 0x07;
+}
+
+/* That block is FF, and alone in the list. */
+static int right_image_salvage(const struct call *call)
+{
+    const uint8_t list[9] = {1, 0, 0, 0, M25P_REASON_NUMBER, 0, 0, 0, 0x5A};
+    memset(plain + 504, 0xFF, 504);
+    put_image(room[2], plain, BYTES);
+    return call->answer == (uint64_t)1 << 16 && memcmp(room[0], room[2], IMAGE) == 0
+        && memcmp(room[1], list, sizeof list) == 0;
+}
+
 static void run(struct call *call, int i, int j, int of_pointers)
 {
     for (int r = 0; r < MOST_POINTERS; r++)
@@ -291,7 +352,8 @@ int main(void)
     static struct call calls[] = {
         CALL(deliver, 2, 7), CALL(transact, 4, 6), CALL(wait, 2, 3),
         CALL(power_up, 2, 2), CALL(loss, 3, 4), CALL(pins, 4, 4),
-        CALL(batch, 6, 6),
+        CALL(batch, 6, 6), CALL(image_write, 2, 3), CALL(image_read, 2, 3),
+        CALL(image_salvage, 2, 3),
     };
     int fine = 1;
     for (size_t i = 0; i < sizeof calls / sizeof *calls; i++)

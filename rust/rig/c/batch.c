@@ -172,7 +172,7 @@ static void empty(const char *kind, uint8_t *start)
 static void beyond_32_bits(void)
 {
     const size_t over = (size_t)1 << 32;
-    uint8_t *huge = huge_slice();
+    uint8_t *huge = huge_slice(HUGE_BYTES);
     printf("lengths beyond 32 bits\n");
     for (int i = 0; i < SLICES; i++) {
         if (i == ITEMS)

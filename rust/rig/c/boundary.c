@@ -1,7 +1,7 @@
 /* boundary.c - the C calls at their limits: empty slices with and without an address, lengths beyond 32
  * bits, full 32-bit numbers, rewrites without an erase, power losses, lock registers, every part. Prints
  * one line for each call: its name, answer number, first, count and bits missing; of each part one line: the
- * answers of delivery, RDID and RES, and what the two drive. Batches are in batch.c. */
+ * answers of delivery, RDID and RES, and what the two drive. Batches are in batch.c, images in image.c. */
 #include "limits.h"
 
 static uint8_t record[M25P_RECORD_BYTES];
@@ -267,7 +267,7 @@ static void parts(void)
 
 int main(void)
 {
-    huge = huge_slice();
+    huge = huge_slice(HUGE_BYTES);
     sent[0] = 0x05;
     empty("an address", array);
     beyond_32_bits();

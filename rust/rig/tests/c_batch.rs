@@ -3,9 +3,7 @@
 #[path = "support/c.rs"]
 mod c;
 
-use std::path::Path;
-
-use c::{built_prints, file, prints};
+use c::{page_prints, prints};
 
 /// What is written by the day of the program, and that nothing else is.
 const CARRIED: &str = "\
@@ -89,12 +87,5 @@ fn limits() {
 /// The program of the page is built and prints what the page says.
 #[test]
 fn program_of_the_page() {
-    let page = std::fs::read_to_string(file("docs/C-CALLS.md")).unwrap();
-    let program = page.split("```c\n").filter_map(|rest| rest.split("```").next());
-    let program = program.filter(|block| block.contains("int main")).last().expect("a program");
-    let path = Path::new(env!("CARGO_TARGET_TMPDIR")).join("page_batch.c");
-    std::fs::write(&path, program).unwrap();
-    let lines = ["answers 0 0 0 0 0 0 0 0", "status 03, read 5A 3C, 4 bits missing"];
-    assert!(page.contains(&lines.map(|line| format!("`{line}`")).join(" and ")));
-    built_prints("-std=c99", "page_batch", &path, &lines.map(|line| format!("{line}\n")).concat());
+    page_prints("A batch", &["answers 0 0 0 0 0 0 0 0", "status 03, read 5A 3C, 4 bits missing"]);
 }

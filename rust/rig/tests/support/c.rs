@@ -29,3 +29,27 @@ pub fn built_prints(standard: &str, name: &str, path: &Path, expected: &str) {
     assert!(run.status.success(), "{name}: {}, having printed\n{text}", run.status);
     assert_eq!(text, expected);
 }
+
+/// Builds the program in a section of docs/C-CALLS.md; it prints these lines, and the page says so.
+pub fn page_prints(section: &str, lines: &[&str]) {
+    let page = std::fs::read_to_string(file("docs/C-CALLS.md")).unwrap();
+    let inside = page.split("\n## ").find(|text| text.starts_with(section)).expect(section);
+    let blocks = inside.split("```c\n").skip(1).filter_map(|rest| rest.split("```").next());
+    let programs: Vec<&str> = blocks.filter(|block| block.contains("int main")).collect();
+    let [program] = programs[..] else { panic!("{section} has {} programs", programs.len()) };
+    let (last, others) = lines.split_last().unwrap();
+    let said = others.iter().map(|line| format!("`{line}`")).collect::<Vec<_>>().join(", ");
+    assert!(
+        inside.contains(&format!("It prints {said} and `{last}`.")),
+        "{section} says otherwise"
+    );
+    let name = format!("page {section}").replace(' ', "_");
+    let path = Path::new(env!("CARGO_TARGET_TMPDIR")).join(format!("{name}.c"));
+    std::fs::write(&path, program).unwrap();
+    built_prints(
+        "-std=c99",
+        &name,
+        &path,
+        &lines.iter().map(|line| format!("{line}\n")).collect::<String>(),
+    );
+}
