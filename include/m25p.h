@@ -281,9 +281,9 @@ uint64_t m25p_deliver(uint8_t *record, size_t record_len, uint32_t part,
  *
  * Hardware protection of parts 0 to 5: starting from a standby record with SRWD set, as long as w is 0 in
  * every transaction (in m25p_pins, as long as W is low in every sample in which Select rises; in m25p_batch,
- * as long as bit 0 of every transaction's flag byte is 0), no call but m25p_deliver changes BP, SRWD or a
- * byte of a protected sector, power losses included; m25p_image_read fills whichever array it is lent. One WRSR with W high may undo it, and so may one with
- * W low where SRWD is not set, or one that was running at the start. Sectors that BP leaves free are
+ * as long as bit 0 of every transaction's flag byte is 0), no call on the chip but m25p_deliver changes BP,
+ * SRWD or a byte of a protected sector, power losses included. One WRSR with W high may undo it, and so may
+ * one with W low where SRWD is not set, or one that was running at the start. Sectors that BP leaves free are
  * programmed and erased as ever.
  *
  * What a lock is worth: starting from a standby record of part 6 with a lock register of 3, no transaction
@@ -429,20 +429,23 @@ uint64_t m25p_batch(uint8_t *record, size_t record_len,
  *   3          4,194,304   8,323    4,261,376      66,584
  *   4         16,777,216  33,289   17,043,968     266,312
  *
- * The array stays as it is, and every byte of the image is written, whatever it held. Only the array is in
- * an image: settings, lock registers and a running cycle are in the record, which is yours to keep. The part
- * is not in it either: parts of one size read each other's images.
+ * The array stays as it is, and every byte of the image is written, whatever it held. Refused with 31, 32 or
+ * 2, the image stays as it is. Only the array is in an image: settings, lock registers and a running cycle
+ * are in the record, which is yours to keep. The part is not in it either: parts of one size read each
+ * other's images.
  *
  * A block is good if its number is its place and both sums are right. What fills up the last block need not
- * be FF; its sums count it as it stands. The sums see most damage, not all: 512 bytes 00 are a good block in
- * place 0, and a block whose bytes 100 to 102 become 1 more, 2 less and 1 more keeps both its sums. */
+ * be FF; its sums count it as it stands. The sums see most damage, not all. A change of one or two bytes in
+ * a block is always seen; but 512 bytes 00 are a good block in place 0, and where three neighbours become 1
+ * more, 2 less and 1 more, both sums stay. */
 uint64_t m25p_image_write(uint32_t part, const uint8_t *array, size_t array_len,
                           uint8_t *image, size_t image_len);
 
-/* Reads an image back into an array. If all blocks are good, the answer is 0, and the array is the one that
- * was written; what fills up the last block is dropped. Otherwise the answer is 33, m25p_blocks is the place
- * of the first bad block, whatever number stands in it, and the array stays as it is, the bytes of good
- * blocks before it, too. The image stays in any case. */
+/* Reads an image back into an array. If all blocks are good, the answer is 0, and every byte of the array is
+ * written: it is the one that the image was written of; what fills up the last block is dropped. Otherwise
+ * the answer is 33, and m25p_blocks is the place of the first bad block, whatever number stands in it. With
+ * 33, as with 31, 32 and 2, the array stays as it is: not even good blocks before the bad one are copied. The
+ * image stays in any case. */
 uint64_t m25p_image_read(uint32_t part, const uint8_t *image, size_t image_len,
                          uint8_t *array, size_t array_len);
 
@@ -460,7 +463,8 @@ uint64_t m25p_image_read(uint32_t part, const uint8_t *image, size_t image_len,
  * the bytes from 504 * b on, 504 of them or those up to its end.
  *
  * 34 goes by whole places, list_len / 8, which must not be fewer than the blocks of the image, however few
- * of them are bad: M25P_LIST_BYTES of the array's size suffices. Longer lists are good. */
+ * of them are bad: M25P_LIST_BYTES of the array's size suffices. Longer lists are good. A refused salvage
+ * changes nothing: image and list stay as they are. */
 uint64_t m25p_image_salvage(uint32_t part, uint8_t *image, size_t image_len,
                             uint8_t *list, size_t list_len);
 

@@ -239,11 +239,31 @@ fn filled_up_with_others() {
     }
 }
 
+/// Two bytes of a block, one as much less as the other is more: the second sum sees it at every distance and by every
+/// difference. Powers of two come nearest to what it would not see.
+#[test]
+fn two_bytes_are_seen() {
+    let part = Part::Bench;
+    let mut image = image_of(&array(part, 10));
+    let unread = Err(Unread { answer: Answer::BadBlock, block: Some(2) });
+    for (distance, less) in (0..9).flat_map(|i| (0..8).map(move |j| (1 << i, 1 << j))) {
+        for at in (0..ARRAY_BYTES - distance).step_by(31) {
+            let mut data = [0x55; ARRAY_BYTES];
+            (data[at], data[at + distance]) = (0xFF, 0x00);
+            let changed = block(&mut image, 2);
+            changed.copy_from_slice(&good(2, &data));
+            changed[8 + at] -= less;
+            changed[8 + at + distance] += less;
+            assert_eq!(image::read(part, &image), unread, "{at}, {distance}, {less}");
+        }
+    }
+}
+
 /// What the sums do not see: a block of zeros in place 0, and changes that cancel out in both sums.
 #[test]
 fn unseen_damage() {
     let part = Part::Bench;
-    let mut array = array(part, 10);
+    let mut array = array(part, 11);
     array[600..603].fill(0x10);
     let mut image = image_of(&array);
     block(&mut image, 0).fill(0);
@@ -285,7 +305,7 @@ fn order_of_refusals() {
 /// A bad block behind good ones: the array stays whole. Of a longer list only the places used are written.
 #[test]
 fn bytes_that_stay() {
-    let mut image = image_of(&array(Part::Bench, 11));
+    let mut image = image_of(&array(Part::Bench, 12));
     block(&mut image, 4)[0] = 0x40;
     block(&mut image, 8)[7] ^= 0x40;
     let before = image.clone();
@@ -305,7 +325,7 @@ fn bytes_that_stay() {
 #[test]
 fn refusals_and_words() {
     let part = Part::M25p40;
-    let array = array(part, 12);
+    let array = array(part, 13);
     for length in [0, 1, part.bytes() - 1] {
         assert_eq!(image::write(part, &array[..length]), Err(Answer::ArrayLength));
     }

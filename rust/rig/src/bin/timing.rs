@@ -1,9 +1,11 @@
-//! Times long reads, bulk erases, cut ones too, and raw pins through the C calls against plain Rust, side by side in
-//! one run on x86-64, where both run on the same processor; short transactions by themselves; and a day's batch against
-//! the same items in calls of their own.
+//! Times long reads, bulk erases, cut ones too, raw pins and images through the C calls against plain Rust, side by side
+//! in one run on x86-64, where both run on the same processor; short transactions by themselves; and a day's batch
+//! against the same items in calls of their own.
 
 #[path = "timing/day.rs"]
 mod day;
+#[path = "timing/images.rs"]
+mod images;
 
 use std::hint::black_box;
 use std::process::ExitCode;
@@ -225,6 +227,8 @@ fn main() -> ExitCode {
     time_short(Part::M25p32);
     time_pins("mode 0", SpiMode::Zero);
     time_pins("mode 3", SpiMode::Three);
+    images::time_images(Part::M25p32);
+    images::time_images(Part::M25p128);
     day::time_day(Part::M25p40);
     ExitCode::SUCCESS
 }
