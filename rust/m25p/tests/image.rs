@@ -177,16 +177,17 @@ fn what_is_saved() {
 /// Every block is bad, by turns for its number and for its sums.
 #[test]
 fn all_bad() {
-    let part = Part::M25p10a;
-    let mut image = image_of(&array(part, 6));
-    let expected = (0..part.blocks()).map(|place| {
-        let (at, reason) = SPOILED[place % SPOILED.len()];
-        block(&mut image, place)[at] ^= 0x01;
-        Lost { block: place, reason }
-    });
-    let expected: Vec<Lost> = expected.collect();
-    assert_eq!(image::salvage(part, &mut image), Ok(expected));
-    assert!(image == image_of(&vec![0xFF; part.bytes()]));
+    for part in [Part::M25p10a, Part::M25p128] {
+        let mut image = image_of(&array(part, 6));
+        let expected = (0..part.blocks()).map(|place| {
+            let (at, reason) = SPOILED[place % SPOILED.len()];
+            block(&mut image, place)[at] ^= 0x01;
+            Lost { block: place, reason }
+        });
+        let expected: Vec<Lost> = expected.collect();
+        assert!(image::salvage(part, &mut image) == Ok(expected), "{part}: another list");
+        assert!(image == image_of(&vec![0xFF; part.bytes()]), "{part}: another image");
+    }
 }
 
 /// A block with a wrong number and wrong sums is lost for its number. One in another's place is bad although it is right
@@ -277,32 +278,33 @@ fn unseen_damage() {
 /// The calls on slices: a refused one leaves all its bytes, and the first refusal that applies is told.
 #[test]
 fn order_of_refusals() {
-    let (array, mut image) = (vec![0x3C; 4_096], vec![0xC3; 4_608]);
-    let bits = |reply: m25p::Reply| reply.bits();
-    for part in [7, 8, 255, 256, 258, 65_536, 1 << 31, u32::MAX] {
-        assert_eq!(bits(calls::image_write(part, &[], &mut [])), 31, "part {part}");
-        assert_eq!(bits(calls::image_read(part, &image, &mut [])), 31, "part {part}");
-        assert_eq!(bits(calls::image_salvage(part, &mut image, &mut [])), 31, "part {part}");
-    }
+    let (array, mut image) = (vec![0x3C; 4_097], vec![0xC3; 5_120]);
     let (mut other, mut list) = (array.clone(), vec![0x99; 72]);
-    for length in [0, 512, 4_096, 4_607] {
-        assert_eq!(bits(calls::image_write(0, &array[1..], &mut image[..length])), 32, "{length}");
-        assert_eq!(bits(calls::image_read(0, &image[..length], &mut other[1..])), 32, "{length}");
-        let (image, list) = (&mut image[..length], &mut list[1..]);
-        assert_eq!(bits(calls::image_salvage(0, image, list)), 32, "{length}");
+    for part in [7, 8, 255, 256, 258, 65_536, 1 << 31, u32::MAX] {
+        assert_eq!(calls::image_write(part, &[], &mut []).bits(), 31, "part {part}");
+        assert_eq!(calls::image_read(part, &image, &mut []).bits(), 31, "part {part}");
+        assert_eq!(calls::image_salvage(part, &mut image, &mut []).bits(), 31, "part {part}");
     }
-    for length in [0, 4_095] {
-        assert_eq!(bits(calls::image_write(0, &array[..length], &mut image)), 2, "{length}");
-        assert_eq!(bits(calls::image_read(0, &image, &mut other[..length])), 2, "{length}");
+    for length in [0, 512, 4_096, 4_607, 4_609, 5_120] {
+        assert_eq!(calls::image_write(0, &array, &mut image[..length]).bits(), 32, "{length}");
+        assert_eq!(calls::image_read(0, &image[..length], &mut other).bits(), 32, "{length}");
+        let (image, list) = (&mut image[..length], &mut list[1..]);
+        assert_eq!(calls::image_salvage(0, image, list).bits(), 32, "{length}");
+    }
+    let whole = &mut image[..4_608];
+    for length in [0, 4_095, 4_097] {
+        assert_eq!(calls::image_write(0, &array[..length], whole).bits(), 2, "{length}");
+        assert_eq!(calls::image_read(0, whole, &mut other[..length]).bits(), 2, "{length}");
     }
     for length in [0, 8, 71] {
-        assert_eq!(bits(calls::image_salvage(0, &mut image, &mut list[..length])), 34, "{length}");
+        assert_eq!(calls::image_salvage(0, whole, &mut list[..length]).bits(), 34, "{length}");
     }
-    assert_eq!(bits(calls::image_read(0, &image, &mut other)), 33);
-    assert!(array == other && image == [0xC3; 4_608] && list == [0x99; 72]);
+    assert_eq!(calls::image_read(0, whole, &mut other[1..]).bits(), 33);
+    assert!(array == other && image == [0xC3; 5_120] && list == [0x99; 72]);
 }
 
-/// A bad block behind good ones: the array stays whole. Of a longer list only the places used are written.
+/// A bad block behind good ones: the array stays whole. Of a longer list only the places used are written, and a shorter
+/// one is refused, although two places would do.
 #[test]
 fn bytes_that_stay() {
     let mut image = image_of(&array(Part::Bench, 12));
@@ -319,6 +321,11 @@ fn bytes_that_stay() {
         assert_eq!((reply.bits(), reply.blocks()), (2 << 16, 2));
         assert_eq!(list[..16], [4, 0, 0, 0, 1, 0, 0, 0, 8, 0, 0, 0, 2, 0, 0, 0]);
         assert!(list[16..].iter().all(|byte| *byte == 0x99), "{length}");
+    }
+    for length in [0, 16, 64, 71] {
+        let mut list = vec![0x99; length];
+        assert_eq!(calls::image_salvage(0, &mut image, &mut list).bits(), 34, "{length}");
+        assert!(image == before && list.iter().all(|byte| *byte == 0x99), "{length}");
     }
 }
 

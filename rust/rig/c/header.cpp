@@ -11,8 +11,11 @@ static bool images()
     uint64_t read = m25p_image_read(M25P_BENCH, image, sizeof image, array, sizeof array);
     uint64_t salvaged = m25p_image_salvage(M25P_BENCH, image, sizeof image, list, sizeof list);
     bool listed = list[0] == 1 && list[4] == M25P_REASON_SUMS && list[M25P_LIST_PLACE] == 0;
+    bool refused = m25p_image_write(7, array, sizeof array, image, sizeof image) == M25P_IMAGE_PART
+        && m25p_image_write(M25P_BENCH, array, sizeof array, image, M25P_BLOCK_ARRAY) == M25P_IMAGE_LENGTH
+        && m25p_image_salvage(M25P_BENCH, image, sizeof image, list, M25P_LIST_PLACE) == M25P_LIST_ROOM;
     return written == M25P_EXECUTED && m25p_answer(read) == M25P_BAD_BLOCK && m25p_blocks(read) == 1
-        && m25p_answer(salvaged) == M25P_EXECUTED && m25p_blocks(salvaged) == 1 && listed;
+        && m25p_answer(salvaged) == M25P_EXECUTED && m25p_blocks(salvaged) == 1 && listed && refused;
 }
 
 int main()

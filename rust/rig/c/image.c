@@ -29,34 +29,56 @@ static void spoil(const struct harm *harm)
     at(IMAGE)[512 * (size_t)harm->place + harm->byte] ^= harm->bits;
 }
 
-/* Blocks of the part are spoiled, one harm for each, in order: they are due to be FF, and in the list. */
+/* A block is due to be FF, and in this place of the list. */
+static void lose(size_t i, uint32_t place, uint8_t reason)
+{
+    const uint8_t entry[8] = {(uint8_t)place, (uint8_t)(place >> 8), 0, 0, reason};
+    put_block(due_at(IMAGE), place, NULL, 0);
+    memcpy(due_at(LIST) + 8 * i, entry, 8);
+}
+
+/* Blocks of the part are spoiled, one harm for each, in order: they are due to be lost. */
 static void spoil_all(const struct harm *harms, size_t n)
 {
     for (size_t i = 0; i < n; i++)
         spoil(&harms[i]);
     stay();
-    for (size_t i = 0; i < n; i++) {
-        uint32_t place = harms[i].place;
-        uint8_t entry[8] = {(uint8_t)place, (uint8_t)(place >> 8), 0, 0, harms[i].byte < 4 ? 1 : 2};
-        put_block(due_at(IMAGE), place, NULL, 0);
-        memcpy(due_at(LIST) + 8 * i, entry, 8);
-    }
+    for (size_t i = 0; i < n; i++)
+        lose(i, harms[i].place, harms[i].byte < 4 ? M25P_REASON_NUMBER : M25P_REASON_SUMS);
 }
 
-/* Every part: there and back, nothing to salvage, and then four blocks, two of them the first and the last. */
+/* Bad blocks of a part: the last for the reader; four, the first and the last among them, and all for salvage. */
+static void damaged(uint32_t part)
+{
+    const uint32_t blocks = M25P_BLOCKS(parts[part].bytes), last = blocks - 1;
+    const struct harm harms[] = {{0, 8, 0x01}, {1, 1, 0x02}, {last / 2, 6, 0x04}, {last, 71, 0x80}};
+    prepare(part);
+    spoil(&harms[3]);
+    stay();
+    told("read, the last is bad", READ, part);
+    prepare(part);
+    told("salvage, all are good", SALVAGE, part);
+    spoil_all(harms, 4);
+    told("salvage, four are bad", SALVAGE, part);
+    stay();
+    told("salvage again", SALVAGE, part);
+    prepare(part);
+    memset(at(IMAGE), MARK, length[IMAGE]);
+    stay();
+    for (uint32_t i = 0; i < blocks; i++)
+        lose(i, i, M25P_REASON_NUMBER);
+    told("salvage, all are bad", SALVAGE, part);
+}
+
+/* Every part, with the header's figures: its blocks, and the bytes of its image and of a list. */
 static void all_parts(void)
 {
     for (uint32_t part = 0; part < 7; part++) {
-        uint32_t last = M25P_BLOCKS(parts[part].bytes) - 1;
-        const struct harm harms[] = {{0, 8, 0x01}, {1, 1, 0x02}, {last / 2, 6, 0x04}, {last, 71, 0x80}};
-        printf("%s, %u blocks\n", parts[part].name, (unsigned)last + 1);
+        size_t bytes = parts[part].bytes;
+        printf("%s: %u %u %u\n", parts[part].name, (unsigned)M25P_BLOCKS(bytes), (unsigned)M25P_IMAGE_BYTES(bytes),
+               (unsigned)M25P_LIST_BYTES(bytes));
         to_and_fro(part);
-        prepare(part);
-        told("salvage, all good", SALVAGE, part);
-        spoil_all(harms, 4);
-        told("salvage", SALVAGE, part);
-        stay();
-        told("salvage again", SALVAGE, part);
+        damaged(part);
     }
 }
 
@@ -120,8 +142,7 @@ static void other_blocks(void)
     told("salvage, filled up with 00", SALVAGE, M25P_BENCH);
     at(IMAGE)[8 * 512 + 511] = 0x01;
     stay();
-    put_block(due_at(IMAGE), 8, NULL, 0);
-    memcpy(due_at(LIST), (const uint8_t[]){8, 0, 0, 0, 2, 0, 0, 0}, 8);
+    lose(0, 8, M25P_REASON_SUMS);
     told("salvage, one more than its sums", SALVAGE, M25P_BENCH);
 }
 

@@ -16,18 +16,21 @@ const PARTS: [(&str, usize); 7] = [
     ("M25PE40", 1_041),
 ];
 
-const EACH: &str = "\
-write: 0 0 0 0
-as due
-read: 0 0 0 0
-as due
-salvage, all good: 0 0 0 0
-as due
-salvage: 0 0 4 0
-as due
-salvage again: 0 0 0 0
-as due
-";
+/// What is printed of a part with so many blocks.
+fn part(name: &str, blocks: usize) -> String {
+    let calls = [
+        ("write", 0, 0),
+        ("read", 0, 0),
+        ("read, the last is bad", 33, blocks - 1),
+        ("salvage, all are good", 0, 0),
+        ("salvage, four are bad", 0, 4),
+        ("salvage again", 0, 0),
+        ("salvage, all are bad", 0, blocks),
+    ];
+    let calls =
+        calls.map(|(call, answer, blocks)| format!("{call}: {answer} 0 {blocks} 0\nas due\n"));
+    format!("{name}: {blocks} {} {}\n{}", blocks * 512, blocks * 8, calls.concat())
+}
 
 /// The first ten bytes of blocks 0, 1, 2 and 8, and their bytes 71 and 72, between which the filling begins in the last.
 const BYTES: &str = "\
@@ -133,7 +136,7 @@ read, a bad block: 33 0 0 0
 
 #[test]
 fn limits() {
-    let parts = PARTS.map(|(name, blocks)| format!("{name}, {blocks} blocks\n{EACH}")).concat();
+    let parts = PARTS.map(|(name, blocks)| part(name, blocks)).concat();
     let bad = SPOILED.iter().enumerate().map(|(i, byte)| {
         format!("read, byte {byte}: 33 0 {} 0\nas due\nsalvage: 0 0 1 0\nas due\n", i % 9)
     });
