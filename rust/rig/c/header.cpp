@@ -1,6 +1,10 @@
 // header.cpp - the header from C++: the constants, the inline functions, and the linkage of the calls.
 #include "m25p.h"
 
+// The macros of images stand in brackets, and so do their arguments.
+static_assert(M25P_BLOCKS(true ? 4096u : 0u) == 9 && 18 / M25P_BLOCKS(4096u) == 2, "blocks");
+static_assert(9216 / M25P_IMAGE_BYTES(4096u) == 2 && 144 / M25P_LIST_BYTES(4096u) == 2, "bytes");
+
 // The calls for images, and the macros as the bounds of arrays.
 static bool images()
 {
