@@ -31,8 +31,9 @@
 //! # Ok::<(), Box<dyn std::error::Error>>(())
 //! ```
 //!
-//! The sums see most damage, not all: a block of 512 bytes 00 is good in place 0, and there are changes of several bytes
-//! that keep both sums. No part stands in an image: parts of one size read each other's.
+//! The sums see most damage, not all. A change of one or two bytes of a block is always seen; but a block of 512 bytes 00
+//! is good in place 0, and there are changes of three bytes that keep both sums. No part stands in an image: parts of one
+//! size read each other's.
 
 use std::error::Error;
 use std::fmt;
