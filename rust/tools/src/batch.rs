@@ -18,33 +18,9 @@ use m25p::batch::{items, BadItem};
 use m25p::{Answer, Part};
 
 use crate::command::{read, write};
+use crate::program::Failure;
 use options::Request;
 use text::Shown;
-
-/// Why a command ends without success.
-#[derive(Debug)]
-pub enum Failure {
-    /// What is to be said on standard error.
-    Sentence(String),
-    /// Whoever read the output has gone, and nothing is to be said.
-    Unread,
-}
-
-impl From<String> for Failure {
-    fn from(sentence: String) -> Failure {
-        Failure::Sentence(sentence)
-    }
-}
-
-/// What becomes of an output that cannot be written.
-impl From<io::Error> for Failure {
-    fn from(error: io::Error) -> Failure {
-        match error.kind() {
-            io::ErrorKind::BrokenPipe => Failure::Unread,
-            _ => Failure::Sentence(format!("Standard output cannot be written: {error}.")),
-        }
-    }
-}
 
 /// Does what the words ask for; what is to be printed goes to `out`.
 pub fn carry_out(

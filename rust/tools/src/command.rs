@@ -1,6 +1,7 @@
-//! What the commands `pins` and `batch` share: words of the command line, files, and the sentences of what fails.
+//! What the commands `pins`, `batch` and `image` share: values of options, files, and the sentences of what fails.
 
 use std::ffi::OsStr;
+use std::os::unix::fs::MetadataExt;
 use std::path::{Path, PathBuf};
 
 use m25p::{Answer, Durations, Part, UnknownPart};
@@ -30,9 +31,18 @@ pub fn ticks(word: &OsStr) -> Result<Durations, String> {
     four.map(Durations::from).ok_or(format!("{text} is not four durations such as 3,5,9,2."))
 }
 
-/// Whether two paths lead to one file.
+/// Whether two paths lead to one file, be it by links of either kind.
 pub fn same(a: &Path, b: &Path) -> bool {
-    a == b || place(a).is_some_and(|a| place(b).is_some_and(|b| a == b))
+    a == b || known_same(place(a), place(b)) || known_same(file(a), file(b))
+}
+
+fn known_same<T: PartialEq>(a: Option<T>, b: Option<T>) -> bool {
+    a.is_some() && a == b
+}
+
+/// The file that a path leads to, by the numbers of device and file.
+fn file(path: &Path) -> Option<(u64, u64)> {
+    path.metadata().ok().map(|there| (there.dev(), there.ino()))
 }
 
 /// Where a path leads, to a file that is there or to one that is still to be made.

@@ -1,4 +1,4 @@
-//! A file that is replaced as a whole or not at all: the new contents go into a file beside it and onto
+//! A file that is made or replaced as a whole or not at all: the new contents go into a file beside it and onto
 //! the disk, and then this file takes its name.
 
 use std::ffi::OsString;
@@ -13,13 +13,39 @@ pub fn replace(
     bytes: &[u8],
     prepare: impl FnOnce(&File) -> io::Result<()>,
 ) -> io::Result<File> {
+    put(path, bytes, prepare, |beside| fs::rename(beside, path))
+}
+
+/// Makes a file where there is nothing of its name; what is there stays, also if it has come only meanwhile, and that
+/// is an error. `prepare` sees the new file while it is empty.
+pub fn create(
+    path: &Path,
+    bytes: &[u8],
+    prepare: impl FnOnce(&File) -> io::Result<()>,
+) -> io::Result<()> {
+    let name = |beside: &Path| match fs::hard_link(beside, path) {
+        Ok(()) => fs::remove_file(beside),
+        // Where the file system has no links, a look must do.
+        Err(_) if fs::symlink_metadata(path).is_err() => fs::rename(beside, path),
+        Err(e) => Err(e),
+    };
+    put(path, bytes, prepare, name).map(drop)
+}
+
+/// Writes a file beside the path, which `name` then gives its name; where anything fails, it goes.
+fn put(
+    path: &Path,
+    bytes: &[u8],
+    prepare: impl FnOnce(&File) -> io::Result<()>,
+    name: impl FnOnce(&Path) -> io::Result<()>,
+) -> io::Result<File> {
     let beside = beside(path);
     let mut file = OpenOptions::new().write(true).create_new(true).open(&beside)?;
     let finish = || {
         prepare(&file)?;
         file.write_all(bytes)?;
         file.sync_all()?;
-        fs::rename(&beside, path)
+        name(&beside)
     };
     if let Err(e) = finish() {
         let _ = fs::remove_file(&beside);

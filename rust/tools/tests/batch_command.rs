@@ -3,11 +3,8 @@
 #[path = "support/batch.rs"]
 #[allow(dead_code)]
 mod batch;
-#[path = "support/common.rs"]
-#[allow(dead_code)]
-mod common;
 
-use batch::{bytes_of, sends, Desk};
+use batch::{bytes_of, desk_of, sends};
 use m25p::batch::{items, Item};
 use m25p::{Answer, Chip, Durations, Part, Response};
 use tools::batch::Instruction;
@@ -95,7 +92,7 @@ const PE_DAY: [Shown; 14] = [
 
 /// Write, list and run of some lines; item i is line i. The last lines of the run are `end`.
 fn day(name: &str, part: &str, lines: &[Shown], end: &str) {
-    let desk = Desk::new(name);
+    let desk = desk_of(name);
     desk.put("lines", lines.iter().map(|(line, ..)| format!("{line}\n")).collect::<String>());
     let made = desk.prints(&["write", "lines", "day"]);
     assert_eq!(made, format!("items {}, bytes {}\n", lines.len(), desk.get("day").len()));
@@ -126,7 +123,7 @@ fn names_of_the_m25pe40() {
 /// The names of a list by code, and that a part without further word is an M25P part.
 #[test]
 fn names_by_code() {
-    let desk = Desk::new("names");
+    let desk = desk_of("names");
     let codes: Vec<[u8; 1]> = (0..=255).map(|code| [code]).collect();
     desk.put("codes", bytes_of(codes.iter().map(|sent| sends(sent))));
     let names = |words: &[&str]| {
@@ -210,7 +207,7 @@ const CODES: [u8; 24] = [
 /// Lines, responses, array and bits missing of a run are those of the calls made singly.
 #[test]
 fn run_is_that_of_single_calls() {
-    let desk = Desk::new("single");
+    let desk = desk_of("single");
     let mut rng = Rng::new(1);
     for part in [Part::Bench, Part::M25p10a, Part::M25p40, Part::M25p10aOlder, Part::M25pe40] {
         let day = random(&mut rng);

@@ -3,16 +3,15 @@
 #[path = "support/batch.rs"]
 #[allow(dead_code)]
 mod batch;
-#[path = "support/common.rs"]
-#[allow(dead_code)]
-mod common;
 
 use std::fs;
 use std::os::unix::fs::symlink;
 use std::path::Path;
 
-use batch::{bytes_of, printed, sends, Desk};
+use batch::desk::printed;
+use batch::{bytes_of, desk_of, sends};
 use m25p::batch::Item;
+use m25p::{image, Part};
 
 const DAY: &str = "x 1 0 06\nx 1 0 02000010A5\nw 3\nx 1 0 0300001000\n";
 
@@ -22,7 +21,7 @@ const ITEMS: &[u8] =
 
 #[test]
 fn lines_become_items() {
-    let desk = Desk::new("lines");
+    let desk = desk_of("lines");
     desk.put("lines", DAY);
     desk.put("day", "what was there");
     assert_eq!(desk.prints(&["write", "lines", "day"]), "items 4, bytes 27\n");
@@ -40,7 +39,7 @@ fn lines_become_items() {
 
 #[test]
 fn nothing_is_a_batch_too() {
-    let desk = Desk::new("nothing");
+    let desk = desk_of("nothing");
     assert_eq!(printed(desk.fed(&["write", "-", "day"], b"")), "items 0, bytes 0\n");
     assert_eq!(desk.get("day"), b"");
     assert_eq!(desk.prints(&["list", "day"]), "");
@@ -52,7 +51,7 @@ fn nothing_is_a_batch_too() {
 /// The longest line, and an item that no line could make.
 #[test]
 fn long_items() {
-    let desk = Desk::new("long");
+    let desk = desk_of("long");
     let line = format!("x 1 0 {}", "0300".repeat(148) + "00");
     assert_eq!(line.len(), 600);
     assert_eq!(printed(desk.fed(&["write", "-", "day"], line.as_bytes())), "items 1, bytes 300\n");
@@ -68,7 +67,7 @@ fn long_items() {
 /// The array before and afterwards, also in one file by way of a link, and what the chip drove.
 #[test]
 fn image_array_and_responses() {
-    let desk = Desk::new("image");
+    let desk = desk_of("image");
     let mut image: Vec<u8> = (0..4_096).map(|i| (i % 251) as u8).collect();
     image[0x10] = 0x1F;
     desk.put("image", &image);
@@ -90,9 +89,39 @@ fn image_array_and_responses() {
     assert_eq!(desk.prints(&words), expected, "from what was saved it is the same");
 }
 
+/// An image in blocks is the array in it, and what is saved is an image in blocks, too; another filler is none of it.
+#[test]
+fn image_in_blocks() {
+    let desk = desk_of("blocks");
+    let mut array: Vec<u8> = (0..4_096).map(|i| (i % 241) as u8).collect();
+    array[0x10] = 0xFF;
+    let blocks = |array: &[u8]| image::write(Part::Bench, array).unwrap();
+    desk.put("raw", &array);
+    desk.put("blocks", blocks(&array));
+    desk.put("day", ITEMS);
+    let run = |image, save| desk.prints(&["run", "0", "day", "--image", image, "--save", save]);
+    let printed = run("raw", "raw.new");
+    assert_eq!(run("blocks", "blocks.new"), printed);
+    assert_eq!(desk.get("blocks"), blocks(&array), "nothing is written unasked");
+    array[0x10] = 0xA5;
+    assert_eq!((desk.get("raw.new"), desk.get("blocks.new")), (array.clone(), blocks(&array)));
+    assert_eq!(run("blocks", "blocks"), printed);
+    assert_eq!(desk.get("blocks"), blocks(&array));
+    desk.prints(&["run", "0", "day", "--save", "raw.new"]);
+    assert_eq!(desk.get("raw.new").len(), 4_096, "raw without an image");
+    let mut bad = blocks(&array);
+    bad[512 * 3 + 100] ^= 0x40;
+    desk.put("bad", bad);
+    let words = ["run", "0", "day", "--image", "bad", "--save", "bad"];
+    let sentence =
+        "The image bad is refused with 33: block 3 is bad; image check lists every bad block, \
+                    and image salvage puts good ones of FF in their place.";
+    assert_eq!(desk.refused(&words, ""), sentence);
+}
+
 #[test]
 fn one_bit_missing() {
-    let desk = Desk::new("bit");
+    let desk = desk_of("bit");
     let program = |byte: u8| format!("x 1 0 06\nx 1 0 02000010{byte:02X}\nw 3\n");
     printed(desk.fed(&["write", "-", "day"], (program(0xFE) + &program(0x01)).as_bytes()));
     assert!(desk.prints(&["run", "2", "day"]).ends_with("\nmissing 1 bit: an erase was missing\n"));
@@ -105,7 +134,7 @@ fn one_bit_missing() {
 /// A cycle that still runs at the end is said, and is not in the array; durations are as asked for.
 #[test]
 fn durations_and_the_end() {
-    let desk = Desk::new("end");
+    let desk = desk_of("end");
     desk.put("day", ITEMS);
     let words = ["run", "0", "day", "--save", "array", "--durations"];
     let running = "a cycle is still running: its change is not in the array\n";
@@ -121,7 +150,7 @@ fn durations_and_the_end() {
 /// Ten megabytes of items.
 #[test]
 fn large_file() {
-    let desk = Desk::new("large");
+    let desk = desk_of("large");
     let wait = Item::Wait { ticks: 3 };
     let (enable, program, read) =
         ([0x06], [0x02, 0, 1, 0, 0xDE, 0xAD], [&[0x03, 0, 1, 0][..], &[0; 16]].concat());
@@ -153,19 +182,19 @@ fn large_file() {
 /// Whoever reads only the beginning gets it, and nothing is complained of; the status tells that there was more.
 #[test]
 fn output_that_is_not_read_to_its_end() {
-    let desk = Desk::new("pipe");
+    let desk = desk_of("pipe");
     desk.put("day", ITEMS.repeat(50_000));
     for (words, first) in
         [("list day", "1 WREN\n"), ("run 0 day --save array", "1 WREN -> 0 executed\n")]
     {
-        let line = format!("{{ batch {words}; echo $? >status; }} | head -n 1");
-        assert_eq!(printed(desk.shell(&line)), first);
+        let line = format!("{{ \"$COMMAND\" {words}; echo $? >status; }} | head -n 1");
+        assert_eq!(printed(desk.shell(&line).output().unwrap()), first);
         assert_eq!(desk.get("status"), b"1\n");
     }
     assert_eq!(desk.get("array")[0x10], 0xA5, "results are written before");
     for words in ["list day", "run 0 day", "--help", "write lines out"] {
         desk.put("lines", DAY);
-        let full = desk.shell(&format!("batch {words} >/dev/full"));
+        let full = desk.shell(&format!("\"$COMMAND\" {words} >/dev/full")).output().unwrap();
         let said = String::from_utf8(full.stderr).unwrap();
         assert!(said.starts_with("Standard output cannot be written: "), "{words}: {said}");
         assert_eq!(full.status.code(), Some(1));
@@ -174,7 +203,7 @@ fn output_that_is_not_read_to_its_end() {
 
 #[test]
 fn help() {
-    let desk = Desk::new("help");
+    let desk = desk_of("help");
     let help = desk.prints(&["--help"]);
     assert!(help.starts_with("Usage: batch write LINES OUT\n"));
     let words = ["batch list FILE", "batch run PART FILE", "--part", "--image", "--save"];
@@ -193,7 +222,7 @@ fn the_front_page() {
     let page = fs::read_to_string(root.join("README.md")).unwrap();
     let (_, behind) = page.split_once("-- run M25P40 day.batch\n```\n\n```\n").unwrap();
     let (listing, _) = behind.split_once("```").unwrap();
-    let desk = Desk::new("front_page");
+    let desk = desk_of("front_page");
     let lines = root.join("examples/first.txt");
     desk.prints(&["write", lines.to_str().unwrap(), "day.batch"]);
     assert_eq!(desk.prints(&["run", "M25P40", "day.batch"]), listing);

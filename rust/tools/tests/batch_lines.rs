@@ -3,11 +3,8 @@
 #[path = "support/batch.rs"]
 #[allow(dead_code)]
 mod batch;
-#[path = "support/common.rs"]
-#[allow(dead_code)]
-mod common;
 
-use batch::{bytes_of, Desk};
+use batch::{bytes_of, desk_of};
 use m25p::batch::Item;
 use tools::batch::items_of;
 
@@ -82,7 +79,7 @@ const BAD: [(&str, &str); 51] = [
 /// A bad line is told by its number and its fault, wherever it stands, and no file is made or changed.
 #[test]
 fn bad_lines() {
-    let desk = Desk::new("bad_lines");
+    let desk = desk_of("bad_lines");
     desk.put("old", "what was there");
     for (i, (line, why)) in BAD.into_iter().enumerate() {
         let before = "x 1 0 06\nw 3\nx 0 7\n".repeat(i);

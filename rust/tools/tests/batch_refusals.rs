@@ -3,21 +3,19 @@
 #[path = "support/batch.rs"]
 #[allow(dead_code)]
 mod batch;
-#[path = "support/common.rs"]
-#[allow(dead_code)]
-mod common;
 
 use std::ffi::OsStr;
 use std::fs;
 use std::os::unix::ffi::OsStrExt;
 use std::os::unix::fs::symlink;
 
-use batch::{bytes_of, sends, Desk};
+use batch::desk::Desk;
+use batch::{bytes_of, desk_of, sends};
 use m25p::batch::{BadItem, Item, Reason};
 
 /// A desk with a good batch of three items, and an image of the bench part.
 fn desk(name: &str) -> Desk {
-    let desk = Desk::new(name);
+    let desk = desk_of(name);
     desk.put("day", good());
     desk.put("image", vec![0x5A; 4_096]);
     desk
@@ -132,7 +130,7 @@ fn files_that_cannot_be_read() {
     let mut odd = desk.command(env!("CARGO_BIN_EXE_batch"), &["list"]);
     let said = odd.arg(OsStr::from_bytes(b"no\xFFwhere")).output().unwrap().stderr;
     assert!(String::from_utf8_lossy(&said).contains("cannot be read: No such file"));
-    let directory = desk.shell("batch write - new <directory");
+    let directory = desk.shell("\"$COMMAND\" write - new <directory").output().unwrap();
     let said = String::from_utf8(directory.stderr).unwrap();
     assert!(said.starts_with("Standard input cannot be read: Is a directory"), "{said}");
     assert!(directory.status.code() == Some(1) && !desk.path("new").exists());
@@ -141,12 +139,15 @@ fn files_that_cannot_be_read() {
 #[test]
 fn image_of_another_size() {
     let desk = desk("size");
-    for (part, length, bytes) in
-        [("bench", 4_095, 4_096), ("0", 4_097, 4_096), ("M25P40", 0, 524_288)]
-    {
+    for (part, length, has) in [
+        ("bench", 4_095, "4096, or 4608 in blocks"),
+        ("0", 4_097, "4096, or 4608 in blocks"),
+        ("bench", 4_609, "4096, or 4608 in blocks"),
+        ("M25P40", 0, "524288, or 532992 in blocks"),
+    ] {
         desk.put("image", vec![0xFF; length]);
         let words = ["run", part, "day", "--image", "image", "--save", "image"];
-        let sentence = format!("The image image has {length} bytes; the part has {bytes}.");
+        let sentence = format!("The image image has {length} bytes; the part has {has}.");
         assert_eq!(desk.refused(&words, ""), sentence);
     }
 }
@@ -156,7 +157,8 @@ fn image_of_another_size() {
 fn one_file_for_two() {
     let desk = desk("one_file");
     symlink("day", desk.path("link")).unwrap();
-    for out in ["day", "./day", "link"] {
+    fs::hard_link(desk.path("day"), desk.path("hard")).unwrap();
+    for out in ["day", "./day", "link", "hard"] {
         assert_eq!(desk.refused(&["write", "day", out], ""), "The lines would be written over.");
         for option in ["--save", "--responses"] {
             let sentence = desk.refused(&["run", "0", "day", option, out], "");

@@ -202,7 +202,9 @@ fn refusals_to_start() {
     let busy = refusal(&["--part", "M25P10-A", "--port", &port], Some(&path));
     assert!(busy.starts_with(&format!("Port {port} can't be had: ")), "{busy}");
     let large = refusal(&["--part", "M25P40"], Some(&path));
-    assert!(large.ends_with("has 131072 bytes; the part has 524288.\n"), "{large}");
+    let lengths = "has 131072 bytes, which is the length of the array of the M25P10-A or the \
+                   M25P10-A-older; the part has 524288, or 532992 in blocks.\n";
+    assert!(large.ends_with(lengths), "{large}");
     let bad = refusal(&["--part", "M25P10-A", "--w", "2"], Some(&path));
     assert_eq!(bad, "--w is 0 to 1, not 2.\n");
     let none = refusal(&["--part", "M25P10-A"], Some(&path.with_file_name("none.bin")));

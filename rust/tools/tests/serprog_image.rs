@@ -1,16 +1,23 @@
-//! The image of a serprog server as a process: when it is written back, whose it is, and that it is whole at every
-//! moment.
+//! The image of a serprog server as a process: when it is written back, whose it is, that it is whole at every moment,
+//! and that it stays raw or in blocks as it was.
 
+#[path = "support/blocks.rs"]
+#[allow(dead_code)]
+mod blocks;
 mod support;
 
 use std::fs;
-use std::os::unix::fs::{symlink, PermissionsExt};
+use std::os::unix::fs::{symlink, MetadataExt, PermissionsExt};
 use std::sync::atomic::{AtomicBool, Ordering};
 use std::thread;
 
+use blocks::{filled_up, image_of};
+use m25p::Part;
 use support::served::{ends_well, image, pin_state, program, refusal, serves, BYTES};
 use support::{scratch, Server};
 use tools::serprog::Image;
+
+const PART: Part = Part::M25p10a;
 
 /// A program that still runs as its client goes is not in the image; as the server ends, it is.
 #[test]
@@ -123,7 +130,7 @@ fn image_that_cannot_be_written() {
 fn image_is_replaced_as_a_whole() {
     let path = scratch("whole").join("chip.bin");
     fs::write(&path, vec![0; BYTES]).unwrap();
-    let mut image = Image::open(&path, BYTES).unwrap();
+    let mut image = Image::open(&path, PART).unwrap();
     let done = AtomicBool::new(false);
     let looks = thread::scope(|scope| {
         let watch = scope.spawn(|| {
@@ -131,7 +138,7 @@ fn image_is_replaced_as_a_whole() {
             while !done.load(Ordering::Relaxed) {
                 let seen = fs::read(&path).unwrap();
                 assert!(seen.len() == BYTES && seen.iter().all(|byte| *byte == seen[0]));
-                assert!(Image::open(&path, BYTES).is_err_and(|e| e.contains("in use")));
+                assert!(Image::open(&path, PART).is_err_and(|e| e.contains("in use")));
                 looks += 1;
             }
             looks
@@ -156,4 +163,63 @@ fn links_and_permissions_stay() {
     ends_well(server, &path, &contents);
     assert!(fs::symlink_metadata(&link).unwrap().is_symlink());
     assert_eq!(fs::metadata(&path).unwrap().permissions().mode() & 0o777, 0o640);
+}
+
+/// An image in blocks is served as the array in it, and written back as an image in blocks. While the array is what it
+/// was, the file stays, and so does what fills up its last block; then that becomes FF.
+#[test]
+fn image_in_blocks() {
+    let (path, mut contents) = image("blocks");
+    let blocks = filled_up(&contents, 0x00);
+    fs::write(&path, &blocks).unwrap();
+    let before = fs::metadata(&path).unwrap().ino();
+    let server = Server::start("M25P10-A", &[], Some(&path));
+    serves(&server, &contents);
+    assert!(pin_state(&mut server.client(), 0));
+    ends_well(server, &path, &blocks);
+    assert_eq!(fs::metadata(&path).unwrap().ino(), before, "not written at all");
+
+    let server = Server::start("M25P10-A", &[], Some(&path));
+    let mut client = server.client();
+    for (at, byte) in [(0x300, 0x12), (BYTES - 1, 0x34)] {
+        program(&mut client, at, byte);
+        contents[at] = byte;
+        assert!(pin_state(&mut client, 0));
+        assert!(fs::read(&path).unwrap() == image_of(&contents), "at once");
+    }
+    drop(client);
+    ends_well(server, &path, &image_of(&contents));
+    let server = Server::start("M25P10-A", &[], Some(&path));
+    serves(&server, &contents);
+    ends_well(server, &path, &image_of(&contents));
+}
+
+/// An image in blocks with a bad one is refused, as is one of another part; both stay, and are not locked.
+#[test]
+fn bad_image_in_blocks() {
+    let (path, contents) = image("bad_blocks");
+    let good = image_of(&contents);
+    let shown = path.canonicalize().unwrap();
+    for (block, byte) in [(0, 0), (7, 4), (7, 511), (260, 511)] {
+        let mut bad = good.clone();
+        bad[512 * block + byte] ^= 0x20;
+        bad[512 * 260] ^= 0x01;
+        fs::write(&path, &bad).unwrap();
+        let expected = format!(
+            "The image {} is refused with 33: block {block} is bad; image check lists every bad block, and image \
+             salvage puts good ones of FF in their place.\n",
+            shown.display()
+        );
+        assert_eq!(refusal(&["--part", "M25P10-A"], Some(&path)), expected);
+        assert!(fs::read(&path).unwrap() == bad);
+    }
+    fs::write(&path, &good).unwrap();
+    let other = refusal(&["--part", "M25PE40"], Some(&path));
+    let expected = format!(
+        "The image {} has 133632 bytes, which is the length of an image of the M25P10-A or the M25P10-A-older; the \
+         part has 524288, or 532992 in blocks.\n",
+        shown.display()
+    );
+    assert_eq!(other, expected);
+    ends_well(Server::start("M25P10", &[], Some(&path)), &path, &good);
 }

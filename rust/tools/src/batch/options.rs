@@ -5,7 +5,8 @@ use std::path::{Path, PathBuf};
 
 use m25p::{Durations, Part};
 
-use crate::command::{once, part, same, ticks};
+use crate::command::{part, same, ticks};
+use crate::words::{exactly, Words};
 
 pub const USAGE: &str = "\
 Usage: batch write LINES OUT
@@ -32,8 +33,10 @@ run          carries the items out on PART as delivered and prints the same line
 PART         a number or a name, in any case: 0 bench, 1 M25P10-A, 2 M25P40, 3 M25P32, 4 M25P128,
              5 M25P10-A-older (without Read Identification), 6 M25PE40
 --part       the part whose names are listed; if not given, those that the M25P40 has
---image      the array at the start, of the part's size; all FF if not given
---save       writes the array as it is afterwards; this may be the file of --image
+--image      the array at the start, raw, or as an image in blocks, which the command image makes;
+             the file's length tells which. All FF if not given
+--save       writes the array as it is afterwards, in blocks if the file of --image is, else raw;
+             this may be that file
 --responses  writes what the chip drove, a byte for each byte sent, FF where it drove nothing
 --durations  ticks of a program (and page write, page erase), sector erase (and subsector erase),
              bulk erase and status write; 3,5,9,2 if not given
@@ -41,6 +44,8 @@ PART         a number or a name, in any case: 0 bench, 1 M25P10-A, 2 M25P40, 3 M
 A batch with a bad item is refused with 9 before anything is carried out, and nothing is written; the
 item is told by its number, its place in the file and what is wrong. A list ends there. A result that
 is there already is replaced. The exit status is 0 if all was done and printed.";
+
+const NAME: &str = "batch";
 
 /// What the command line asks for.
 pub enum Request {
@@ -73,8 +78,8 @@ impl Request {
     }
 
     fn write(words: impl Iterator<Item = OsString>) -> Result<Request, String> {
-        let (plain, []) = parted(words, [])?;
-        let [lines, out] = exactly(plain, "Lines and a file to be made of them")?;
+        let Words { plain, .. } = Words::parse(NAME, words, [], [])?;
+        let [lines, out] = exactly(NAME, plain, "Lines and a file to be made of them")?;
         match lines != Path::new("-") && same(&lines, &out) {
             true => Err("The lines would be written over.".into()),
             false => Ok(Request::Write { lines, out }),
@@ -82,8 +87,8 @@ impl Request {
     }
 
     fn list(words: impl Iterator<Item = OsString>) -> Result<Request, String> {
-        let (plain, [named]) = parted(words, ["--part"])?;
-        let [file] = exactly(plain, "A file")?;
+        let Words { plain, values: [named], .. } = Words::parse(NAME, words, ["--part"], [])?;
+        let [file] = exactly(NAME, plain, "A file")?;
         let part = named.map_or(Ok(Part::M25p40), |word| part(&word))?;
         Ok(Request::List { file, part })
     }
@@ -92,8 +97,9 @@ impl Request {
 impl Run {
     fn parse(words: impl Iterator<Item = OsString>) -> Result<Run, String> {
         let names = ["--image", "--save", "--responses", "--durations"];
-        let (plain, [image, save, responses, durations]) = parted(words, names)?;
-        let [part_word, file] = exactly(plain, "A part and a file")?;
+        let Words { plain, values, .. } = Words::parse(NAME, words, names, [])?;
+        let [image, save, responses, durations] = values;
+        let [part_word, file] = exactly(NAME, plain, "A part and a file")?;
         let [image, save, responses] = [image, save, responses].map(|word| word.map(PathBuf::from));
         let part = part(part_word.as_os_str())?;
         let durations = durations.map_or(Ok(Durations::default()), |word| ticks(&word))?;
@@ -116,34 +122,4 @@ impl Run {
             false => Ok(self),
         }
     }
-}
-
-/// The plain words, and the values of the options that have these names.
-fn parted<const N: usize>(
-    mut words: impl Iterator<Item = OsString>,
-    names: [&str; N],
-) -> Result<(Vec<PathBuf>, [Option<OsString>; N]), String> {
-    let mut plain = Vec::new();
-    let mut values = [const { None }; N];
-    while let Some(word) = words.next() {
-        let name = word.to_string_lossy();
-        match names.iter().position(|known| *known == name) {
-            Some(at) => {
-                let value = words.next().ok_or(format!("{name} has no value."))?;
-                once(&mut values[at], &name, value)?;
-            }
-            None if name.starts_with("--") => {
-                return Err(format!("There is no option {name} here; batch --help says more."))
-            }
-            None => plain.push(word.into()),
-        }
-    }
-    Ok((plain, values))
-}
-
-/// Just so many plain words.
-fn exactly<const N: usize>(plain: Vec<PathBuf>, what: &str) -> Result<[PathBuf; N], String> {
-    let needed = if N == 1 { "is" } else { "are" };
-    let refusal = |_| format!("{what} {needed} needed, and no more; batch --help says more.");
-    plain.try_into().map_err(refusal)
 }

@@ -6,22 +6,25 @@ use std::path::Path;
 use m25p::batch::{items, Item};
 use m25p::{Answer, Batch, Chip, Part};
 
+use super::bad_item;
 use super::options::Run;
 use super::text::{Outcome, Shown};
-use super::{bad_item, Failure};
 use crate::command::{read, refusal, write};
+use crate::contents::{array_in, Form};
+use crate::program::Failure;
 
 /// Carries a batch file out, writes the results, and then prints the items with their answers.
 pub fn run(options: &Run, out: &mut impl Write) -> Result<(), Failure> {
     let bytes = read(&options.file)?;
     let mut chip = Chip::deliver(options.part, options.durations)
         .map_err(|answer| refusal("The delivery", answer))?;
-    if let Some(path) = &options.image {
-        fill(&mut chip, path)?;
-    }
+    let form = match &options.image {
+        Some(path) => fill(&mut chip, path)?,
+        None => Form::Raw,
+    };
     let batch = chip.batch(&bytes).map_err(|answer| refused(&options.file, &bytes, answer))?;
     if let Some(path) = &options.save {
-        write(path, chip.array())?;
+        write(path, &form.pack(options.part, chip.array()))?;
     }
     if let Some(path) = &options.responses {
         write(path, &batch.responses)?;
@@ -33,16 +36,11 @@ pub fn run(options: &Run, out: &mut impl Write) -> Result<(), Failure> {
     Ok(())
 }
 
-/// The array becomes what the file has.
-fn fill(chip: &mut Chip, path: &Path) -> Result<(), String> {
-    let contents = read(path)?;
-    let (length, bytes) = (contents.len(), chip.part().bytes());
-    if length != bytes {
-        let path = path.display();
-        return Err(format!("The image {path} has {length} bytes; the part has {bytes}."));
-    }
-    chip.array_mut().copy_from_slice(&contents);
-    Ok(())
+/// The array becomes what the file has, whose form is handed back.
+fn fill(chip: &mut Chip, path: &Path) -> Result<Form, String> {
+    let (form, array) = array_in(chip.part(), read(path)?, path)?;
+    chip.array_mut().copy_from_slice(&array);
+    Ok(form)
 }
 
 /// The refusal of a batch; 9 is told with the item that is bad.

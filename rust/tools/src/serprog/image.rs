@@ -1,4 +1,4 @@
-//! The image file: a raw copy of the array, of one server alone, replaced as a whole or not at all.
+//! The image file: the array, raw or in blocks, of one server alone, replaced as a whole or not at all.
 
 use std::ffi::c_int;
 use std::fs::{self, File};
@@ -7,48 +7,45 @@ use std::os::fd::AsRawFd;
 use std::os::unix::fs::MetadataExt;
 use std::path::{Path, PathBuf};
 
+use m25p::Part;
+
+use crate::contents::{array_in, form_of, Form};
 use crate::replace::replace;
 
 pub struct Image {
     /// With every link followed, so that a link stays one.
     path: PathBuf,
-    /// What the file has.
+    part: Part,
+    /// How the array stands in the file, which stays so.
+    form: Form,
+    /// The array that the file has.
     saved: Vec<u8>,
     /// The file, open and locked, so that no second server takes it.
     file: File,
 }
 
 impl Image {
-    /// Reads a file of just so many bytes and locks it, or says in a sentence why it can't.
-    pub fn open(path: &Path, bytes: usize) -> Result<Image, String> {
+    /// Reads a file of the part's size, or an image in blocks of it, and locks it, or says in a sentence why it can't.
+    pub fn open(path: &Path, part: Part) -> Result<Image, String> {
         let unread = |e: io::Error| format!("The image {} can't be read: {e}.", path.display());
         let path = fs::canonicalize(path).map_err(unread)?;
         let metadata = fs::metadata(&path).map_err(unread)?;
         if !metadata.is_file() {
             return Err(format!("The image {} is not a file.", path.display()));
         }
-        let wrong = |length: u64| {
-            let shown = path.display();
-            format!("The image {shown} has {length} bytes; the part has {bytes}.")
-        };
-        if metadata.len() != bytes as u64 {
-            return Err(wrong(metadata.len()));
-        }
+        form_of(part, metadata.len(), &path)?;
         let taken = || format!("The image {} is in use by another server.", path.display());
         let file = open_locked(&path).map_err(unread)?.ok_or_else(taken)?;
-        let saved = fs::read(&path).map_err(unread)?;
-        if saved.len() != bytes {
-            return Err(wrong(saved.len() as u64));
-        }
-        Ok(Image { path, saved, file })
+        let (form, saved) = array_in(part, fs::read(&path).map_err(unread)?, &path)?;
+        Ok(Image { path, part, form, saved, file })
     }
 
     pub fn contents(&self) -> &[u8] {
         &self.saved
     }
 
-    /// Writes the array back if it is not what the file has. The new file is locked before it takes the
-    /// image's name, so the image is never without a lock.
+    /// Writes the array back, in the file's form, if it is not what the file has. The new file is locked before it
+    /// takes the image's name, so the image is never without a lock.
     pub fn store(&mut self, array: &[u8]) -> Result<(), String> {
         if self.saved == array {
             return Ok(());
@@ -57,7 +54,7 @@ impl Image {
             new.set_permissions(fs::metadata(&self.path)?.permissions())?;
             lock(new).map(drop)
         };
-        let replaced = replace(&self.path, array, prepare);
+        let replaced = replace(&self.path, &self.form.pack(self.part, array), prepare);
         self.file = replaced.map_err(|e| {
             format!("The image {} can't be written and stays as it was: {e}.", self.path.display())
         })?;

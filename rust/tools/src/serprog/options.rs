@@ -21,9 +21,10 @@ serprog --part NAME [option]...   an M25P or M25PE chip for flashrom, on a loopb
 
   --part NAME        M25P10-A, M25P40, M25P32, M25P128, M25P10 or M25PE40, in capitals or small
                      letters; M25P10 is the older M25P10-A, without Read Identification
-  --image FILE       the contents: a raw file of the part's size, read at start and written back
-                     when a client lets the pins go, when it has hung up, and at the end (SIGINT
-                     or SIGTERM); one server has it at a time
+  --image FILE       the contents: a raw file of the part's size, or an image in blocks, which the
+                     command image makes; its length tells which. It is read at start and written
+                     back in the same form when a client lets the pins go, when it has hung up,
+                     and at the end (SIGINT or SIGTERM); one server has it at a time
   --port N           0 to 65535; 0, the default, takes a free one
   --w 0|1            the level of the Write Protect pin W; 1
   --bp N             block protection at start; 0

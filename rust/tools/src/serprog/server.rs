@@ -25,7 +25,7 @@ impl Server {
     /// Reads the image and takes the port, or says in a sentence why not.
     pub fn start(options: &Options) -> Result<Server, String> {
         let image = match &options.image {
-            Some(path) => Some(Image::open(path, options.part.bytes())?),
+            Some(path) => Some(Image::open(path, options.part)?),
             None => None,
         };
         let listener = TcpListener::bind((Ipv4Addr::LOCALHOST, options.port))
