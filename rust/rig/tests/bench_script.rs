@@ -6,6 +6,7 @@ mod common;
 #[path = "support/place.rs"]
 mod place;
 #[path = "support/pty.rs"]
+#[allow(dead_code)]
 mod pty;
 
 use std::fs::{self, File};

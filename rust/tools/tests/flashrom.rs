@@ -5,9 +5,10 @@ mod support;
 
 use std::fs;
 use std::path::PathBuf;
+use std::process::Command;
 use std::time::Instant;
 
-use m25p::Part;
+use m25p::{image, Part};
 use support::flashrom::{find, tell, Flashrom};
 use support::{scratch, Server};
 use tools::rng::Rng;
@@ -351,4 +352,24 @@ fn cut_unlocking() {
     let told = "Power was lost in cycle 1, a status write (01) of 00 that is absent, and is back; \
                 --cut-after 1 --seed 1 repeats it.\n";
     bench.end_having_told(&old, told);
+}
+
+/// An image in blocks stays one, and the command `image` gives back as raw bytes what flashrom wrote.
+#[test]
+fn image_in_blocks() {
+    for (name, part) in [("M25P40", Part::M25p40), ("M25P10-A", Part::M25p10a)] {
+        let blocks = |array: &[u8]| image::write(part, array).unwrap();
+        let (old, contents) = (full(part.bytes(), 19), full(part.bytes(), 20));
+        let Some(bench) = Bench::new("blocks", name, &blocks(&old), &[]) else { return };
+        assert!(bench.read(name) == old, "{name}: read");
+        let (fine, said) = bench.flashrom.write(name, &contents);
+        assert!(fine && said.contains("VERIFIED."), "{name}: {said}");
+        assert!(bench.read(name) == contents, "{name}: read back");
+        let again = bench.flashrom.directory.join("again.bin");
+        let mut read = Command::new(env!("CARGO_BIN_EXE_image"));
+        read.args(["read", "--part", name]).args([&bench.image, &again]);
+        assert!(read.output().unwrap().status.success());
+        assert!(fs::read(&again).unwrap() == contents, "{name}: image read");
+        bench.end(&blocks(&contents));
+    }
 }

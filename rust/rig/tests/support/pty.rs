@@ -97,4 +97,14 @@ impl Seat {
             self.text += &String::from_utf8_lossy(&piece);
         }
     }
+    /// All that is shown until the program ends, behind what was waited for before.
+    pub fn sees_to_the_end(&mut self) -> String {
+        let end = Instant::now() + PATIENCE;
+        while let Ok(piece) = self.shown.recv_timeout(end.saturating_duration_since(Instant::now()))
+        {
+            self.text += &String::from_utf8_lossy(&piece);
+        }
+        assert!(Instant::now() < end, "no end behind {:?}", self.text);
+        std::mem::take(&mut self.text)
+    }
 }
