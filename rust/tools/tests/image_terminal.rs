@@ -83,6 +83,12 @@ fn bad_images() {
     let block = "block 1: wrong number 7: bytes 504 to 1007 (0x0001F8 to 0x0003EF)\r\n";
     assert!(text.starts_with(&format!("{line}{block}")), "{text}");
     assert_eq!(status, Some(1));
+    desk.put("bad.img", vec![0xA5; 532_992]);
+    let (text, _) = seen(&desk, "exec \"$COMMAND\" --part 2 check bad.img");
+    let line = line_of(&["reading 532992 bytes", "checking 1041 blocks"]);
+    let first = "block 0: wrong number 2779096485: bytes 0 to 503 (0x000000 to 0x0001F7)\r\n";
+    assert!(text.starts_with(&format!("{line}{first}")) && text.len() > 1 << 16, "a long list");
+    assert_eq!(text.matches("checking").count(), 1);
     let (text, status) = seen(&desk, "exec \"$COMMAND\" --part 0 check none");
     assert!(text.starts_with("none cannot be read: "), "no step, no line: {text}");
     assert_eq!(status, Some(1));

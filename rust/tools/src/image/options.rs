@@ -15,15 +15,15 @@ Usage: image write --part PART IN OUT [--force]
        image salvage --part PART IN OUT [--force]
 
 An image is the array of a chip for a disk: blocks of 512 bytes, each with its number, two sums and
-504 bytes of the array, so that damage is seen; include/m25p.h has the bytes.
+504 bytes of the array, so that most damage is seen; include/m25p.h has the bytes.
 
 write    makes the image OUT of IN, the array as raw bytes
 read     makes OUT, the array as raw bytes, of the image IN. An image with a bad block is refused with
          33, the first one is named, and nothing is written
 check    prints a line for each bad block: its place, from 0 on; 'wrong number' and the number that
          stands in it, or else 'wrong sums'; and which bytes of the array it has, from 0 on, in
-         decimal and in hexadecimal. Two blocks that have each other's number were exchanged. Then
-         come the totals
+         decimal and in hexadecimal. Two blocks that have each other's number may have been
+         exchanged. Then come the totals
 salvage  makes the image OUT, which is IN with a good block of FF in the place of each bad one, and
          prints the same lines: the bytes in them are lost. Good blocks stay as they are. OUT is
          written whether anything is lost or not, and can be read
