@@ -48,13 +48,10 @@ impl Display for Totals<'_> {
         let (blocks, good) = (part.blocks(), part.blocks() - bad.len());
         let (number, sums) = (count(Reason::Number), count(Reason::Sums));
         write!(f, "blocks {blocks}, good {good}, wrong number {number}, wrong sums {sums}")?;
-        match salvaged {
-            true => write!(
-                f,
-                ", bytes lost {}",
-                bad.iter().map(|b| b.array_range(part).len()).sum::<usize>()
-            ),
-            false => Ok(()),
+        if salvaged {
+            let lost: usize = bad.iter().map(|bad| bad.array_range(part).len()).sum();
+            write!(f, ", bytes lost {lost}")?;
         }
+        Ok(())
     }
 }
