@@ -2,6 +2,7 @@
 
 mod batches;
 mod ends;
+pub mod images;
 mod locks;
 mod tally;
 mod words;

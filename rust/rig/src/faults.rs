@@ -2,20 +2,24 @@
 //! model. The comparison is made with each of them, to show that it would be seen.
 
 mod batch;
+mod blocks;
 mod carried;
 mod chip;
 mod cycles;
+mod images;
 mod items;
 mod locks;
 mod losses;
 mod missing;
 mod pins;
 mod room;
+mod salvage;
 mod soundness;
 mod walk;
 mod writes;
 
 pub use batch::BATCH;
+pub use images::{IMAGE, LARGE_IMAGE};
 pub use pins::{LONG, SHORT};
 
 use crate::model::{Cycle, Model, Record};
@@ -37,7 +41,7 @@ macro_rules! named {
 }
 use named;
 
-/// The faults of the calls, raw pins and batches apart.
+/// The faults of the calls, raw pins, batches and images apart.
 pub const CHIP: &[(&str, &dyn Model)] = named![
     AndDataIntoSlots,
     RunOnPage,

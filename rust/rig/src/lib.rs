@@ -9,6 +9,8 @@ pub mod bench_model;
 pub mod compare;
 pub mod faults;
 pub mod generate;
+pub mod image_generate;
+pub mod image_model;
 // C programs of the tests are built as the bridge of m25p is.
 #[path = "../../m25p/src/kit.rs"]
 pub mod kit;

@@ -16,33 +16,57 @@ pub struct Plan {
     pub share: [u64; PARTS.len()],
 }
 
-/// Library and model compared over at least so many calls; RIG_SEED makes them others.
-pub fn compared<S: Source>(what: &str, calls: u64, plan: &Plan) -> Tally {
+/// Runs one episode after the other over all parts by their shares: at least so many calls. RIG_SEED makes them others.
+/// An episode is told its part, its calls and its seed.
+pub fn each_episode(
+    what: &str,
+    calls: u64,
+    plan: &Plan,
+    mut run: impl FnMut(usize, u64, u64) -> Result<(), String>,
+) {
     let seed = number("RIG_SEED", SEED);
     tell(&format!("{what}: seed {seed}, at least {calls} calls"));
     let mut seeds = Rng::new(seed);
-    let mut tally = Tally::default();
-    let (all, mut shares) = (plan.share.iter().sum::<u64>(), 0);
+    let (all, mut shares, mut made) = (plan.share.iter().sum::<u64>(), 0, 0);
     for (part, share) in plan.share.into_iter().enumerate() {
         shares += share;
-        while tally.calls < calls * shares / all {
-            episode::<S>(part, plan.episode[part], seeds.draw(), PAPER, &mut tally)
-                .unwrap_or_else(|difference| panic!("{difference}"));
+        while made < calls * shares / all {
+            run(part, plan.episode[part], seeds.draw()).unwrap_or_else(|why| panic!("{why}"));
+            made += plan.episode[part];
         }
     }
+}
+
+/// Library and model compared over at least so many calls.
+pub fn compared<S: Source>(what: &str, calls: u64, plan: &Plan) -> Tally {
+    let mut tally = Tally::default();
+    each_episode(what, calls, plan, |part, calls, seed| {
+        episode::<S>(part, calls, seed, PAPER, &mut tally)
+    });
     tell(&format!("{what}: {}", tally.show()));
     tally
 }
 
+/// One of so many episodes on these parts in turn finds a difference.
+pub fn differs(
+    name: &str,
+    plan: &Plan,
+    parts: &[usize],
+    episodes: usize,
+    mut run: impl FnMut(usize, u64, u64) -> Result<(), String>,
+) {
+    let mut seeds = Rng::new(SEED);
+    let parts = parts.iter().cycle().take(episodes);
+    let seen = parts.into_iter().any(|part| run(*part, plan.episode[*part], seeds.draw()).is_err());
+    assert!(seen, "{name} was not seen in {episodes} episodes");
+}
+
 /// With a fault in the model the same comparison finds a difference, in one of so many episodes on these parts in turn.
 pub fn sees<S: Source>(name: &str, rules: Rules, plan: &Plan, parts: &[usize], episodes: usize) {
-    let mut seeds = Rng::new(SEED);
     let mut tally = Tally::default();
-    let seen = (0..episodes).any(|i| {
-        let part = parts[i % parts.len()];
-        episode::<S>(part, plan.episode[part], seeds.draw(), rules, &mut tally).is_err()
+    differs(name, plan, parts, episodes, |part, calls, seed| {
+        episode::<S>(part, calls, seed, rules, &mut tally)
     });
-    assert!(seen, "{name} was not seen in {} calls", tally.calls);
 }
 
 /// Each of these numbers came often.
