@@ -58,12 +58,12 @@ impl ImageGenerator {
         Asked { call, part, image, other, done }
     }
 
-    /// A buffer with these bytes, random ones behind them, and this length named.
-    fn lent(&mut self, mut bytes: Vec<u8>, len: usize) -> Lent {
-        let begun = bytes.len().min(len + SPARE);
-        bytes.resize(len + SPARE, 0);
-        self.rng.fill(&mut bytes[begun..]);
-        Lent { bytes, len }
+    /// A buffer of this length with these bytes, as far as they go, and random ones around them.
+    fn lent(&mut self, bytes: Vec<u8>, length: usize) -> Lent {
+        let front = self.rng.below(SPARE);
+        let mut around = self.rng.bytes(front + length + SPARE);
+        put(&mut around[front..], &bytes);
+        Lent { bytes: around, range: front..front + length }
     }
 
     /// What a writer finds where the image is to go.

@@ -22,6 +22,9 @@ pub enum Reason {
     Sums,
 }
 
+/// A bad block: its place, and what is wrong with it.
+pub type Lost = (usize, Reason);
+
 /// The three calls.
 #[derive(Clone, Copy, Debug, PartialEq, Eq)]
 pub enum Call {
@@ -71,7 +74,7 @@ pub trait ImageModel: Sync {
     }
 
     /// Bad blocks become what they become; no other block changes.
-    fn salvage_all(&self, image: &mut [u8], lost: &[(usize, Reason)]) {
+    fn salvage_all(&self, image: &mut [u8], lost: &[Lost]) {
         for (place, reason) in lost {
             let block = &mut image[place * BLOCK..][..BLOCK];
             let salvaged = self.salvaged(*place, block, *reason);
@@ -203,8 +206,8 @@ pub trait ImageModel: Sync {
         sums(block) != self.sums(place, &block[HEAD..])
     }
 
-    /// The bad blocks of an image in order, each with the reason.
-    fn lost(&self, image: &[u8]) -> Vec<(usize, Reason)> {
+    /// The bad blocks of an image, in order.
+    fn lost(&self, image: &[u8]) -> Vec<Lost> {
         let blocks = image.chunks_exact(BLOCK).enumerate();
         blocks.filter_map(|(place, block)| Some((place, self.reason(place, block)?))).collect()
     }
@@ -227,7 +230,7 @@ pub trait ImageModel: Sync {
     }
 
     /// Lists the bad blocks from the first place on.
-    fn list(&self, list: &mut [u8], lost: &[(usize, Reason)]) {
+    fn list(&self, list: &mut [u8], lost: &[Lost]) {
         for (entry, (place, reason)) in list.chunks_exact_mut(LIST_PLACE).zip(lost) {
             put(entry, &self.entry(*place as u32, *reason));
         }

@@ -1,9 +1,12 @@
 //! Images on whole ranges: every byte of a block, every number and sum in a head, every choice of bad blocks, every
 //! length and part number, on libm25p.a and as far as it goes on the model beside it; and the largest part.
 
+#[path = "support/images.rs"]
+mod images;
+
+use images::{asked, compared, UNTOUCHED};
 use m25p::calls;
-use rig::compare::images::{step, Asked, Images, Lent};
-use rig::compare::SPARE;
+use rig::compare::images::{step, Images};
 use rig::faults;
 use rig::image_model::{Call, ImageModel, BLOCK, HEAD, LIST_PLACE};
 use rig::model::{Paper, PARTS};
@@ -13,9 +16,6 @@ use rig::rng::Rng;
 const ARRAY: usize = 4_096;
 const IMAGE: usize = 9 * BLOCK;
 const LIST: usize = 9 * LIST_PLACE;
-
-/// What stands in lists and arrays before a call.
-const UNTOUCHED: u8 = 0x55;
 
 /// An image of the bench part with random contents.
 fn random_image(seed: u64) -> Vec<u8> {
@@ -69,7 +69,7 @@ impl Changed {
 /// One changed byte is always seen: in the number it is reason 1, in the sums and behind them reason 2.
 #[test]
 fn every_byte_of_a_block() {
-    for place in [0, 8] {
+    for place in [0, 4, 8] {
         let changed = Changed::new(place);
         for at in 0..BLOCK {
             let own = changed.right[place * BLOCK + at];
@@ -96,25 +96,8 @@ fn every_number_and_sum() {
     }
 }
 
-/// Buffers of these lengths for a call, of these contents.
-fn asked(call: Call, part: u32, [image, other]: [&[u8]; 2], lengths: [usize; 2]) -> Asked {
-    let lent = |bytes: &[u8], len| {
-        let mut bytes = bytes.to_vec();
-        bytes.resize(len + SPARE, UNTOUCHED);
-        Lent { bytes, len }
-    };
-    let (image, other) = (lent(image, lengths[0]), lent(other, lengths[1]));
-    Asked { call, part, image, other, done: None }
-}
-
-/// A call on library and model: the 64 bits, and what the library left.
-fn compared(asked: Asked) -> (u64, Asked) {
-    let left = step(&asked, &Paper, &mut Images::default());
-    left.unwrap_or_else(|difference| panic!("{difference}"))
-}
-
 fn answer(call: Call, bytes: [&[u8]; 2], lengths: [usize; 2]) -> u64 {
-    compared(asked(call, 0, bytes, lengths)).0
+    compared(&asked(call, 0, bytes, lengths)).0
 }
 
 /// Each of the nine blocks right, with a wrong number, or with wrong sums.
@@ -135,7 +118,7 @@ fn every_choice_of_bad_blocks() {
         let count = (lost.len() / LIST_PLACE) as u64;
         let first = lost.first().map_or(0, |first| 33 | u64::from(*first) << 16);
         assert_eq!(answer(Call::Read, [&image, &[]], [IMAGE, ARRAY]), first, "{choice}");
-        let (word, left) = compared(asked(Call::Salvage, 0, [&image, &[]], [IMAGE, LIST]));
+        let (word, left) = compared(&asked(Call::Salvage, 0, [&image, &[]], [IMAGE, LIST]));
         assert_eq!((word, &left.other.named()[..lost.len()]), (count << 16, &lost[..]), "{choice}");
     }
 }
@@ -151,10 +134,10 @@ fn every_place() {
             let byte = place * BLOCK + at;
             image[byte] ^= bits;
             let (word, _) =
-                compared(asked(Call::Read, 5, [&image, &[]], [image.len(), array.len()]));
+                compared(&asked(Call::Read, 5, [&image, &[]], [image.len(), array.len()]));
             assert_eq!(word, 33 | (place as u64) << 16);
             let lengths = [image.len(), 261 * LIST_PLACE];
-            let (word, left) = compared(asked(Call::Salvage, 1, [&image, &[]], lengths));
+            let (word, left) = compared(&asked(Call::Salvage, 1, [&image, &[]], lengths));
             let listed = [place as u8, (place / 256) as u8, 0, 0, reason, 0, 0, 0];
             assert_eq!((word, &left.other.named()[..LIST_PLACE]), (1 << 16, &listed[..]));
             image[byte] ^= bits;
@@ -245,6 +228,6 @@ fn largest_part() {
         assert!(seen, "{name} was not seen");
     }
     for (word, one) in calls {
-        assert_eq!(compared(one).0, word);
+        assert_eq!(compared(&one).0, word);
     }
 }

@@ -6,32 +6,25 @@
 //! 255 * (1 + ... + 504) = 255 * 127,260 = 32,451,300, which is 62,984 (F608) and 10,980 (2AE4) modulo 65,536. So block
 //! n of an array of FF has 62,984 + n and 10,980 + 504 n.
 
-use rig::compare::images::{step, Asked, Images, Lent};
-use rig::compare::SPARE;
-use rig::image_model::Call;
-use rig::model::{Paper, PARTS};
+#[path = "support/images.rs"]
+mod images;
 
-/// What stands in buffers before a call.
-const UNTOUCHED: u8 = 0x55;
+use images::{asked, compared, UNTOUCHED};
+use rig::image_model::Call;
+use rig::model::PARTS;
 
 const BLOCK: usize = 512;
 
-/// A buffer with these bytes, as long as they are.
-fn lent(mut bytes: Vec<u8>) -> Lent {
-    let len = bytes.len();
-    bytes.extend([UNTOUCHED; SPARE]);
-    Lent { bytes, len }
-}
+/// The blocks of each part.
+const BLOCKS: [usize; PARTS.len()] = [9, 261, 1_041, 8_323, 33_289, 261, 1_041];
 
 /// A call: the 64 bits, and what the library leaves as image and as array or list.
 fn ask(call: Call, part: u32, image: &[u8], other: &[u8]) -> (u64, Vec<u8>, Vec<u8>) {
-    let (image, other) = (lent(image.to_vec()), lent(other.to_vec()));
-    let asked = Asked { call, part, image, other, done: None };
-    let left = step(&asked, &Paper, &mut Images::default());
-    let (word, left) = left.unwrap_or_else(|difference| panic!("{difference}"));
+    let (word, left) = compared(&asked(call, part, [image, other], [image.len(), other.len()]));
     (word, left.image.named().to_vec(), left.other.named().to_vec())
 }
 
+/// The image of an array.
 fn write(part: u32, array: &[u8]) -> Vec<u8> {
     let blocks = BLOCKS[part as usize];
     let (word, image, left) = ask(Call::Write, part, &vec![UNTOUCHED; blocks * BLOCK], array);
@@ -39,9 +32,6 @@ fn write(part: u32, array: &[u8]) -> Vec<u8> {
     assert!(left == array);
     image
 }
-
-/// The blocks of each part.
-const BLOCKS: [usize; PARTS.len()] = [9, 261, 1_041, 8_323, 33_289, 261, 1_041];
 
 /// A read of the bench part: the 64 bits, and the array.
 fn read(image: &[u8]) -> (u64, Vec<u8>) {
@@ -225,14 +215,11 @@ fn salvaged() {
     assert_eq!(word, 0x4_0000);
     let listed = ["0300000001000000", "0500000002000000", "0600000002000000", "0700000002000000"];
     assert_eq!(list, listed.concat());
-    for place in 0..9 {
+    for (place, erased) in ERASED.into_iter().enumerate() {
         let lost = [3, 5, 6, 7].contains(&place);
         let block = place * BLOCK..(place + 1) * BLOCK;
         assert_eq!(after[block.clone()] != image[block], lost);
-        if lost {
-            assert_eq!(head(&after, place), ERASED[place]);
-            assert_eq!(data(&after, place), [0xFF; 504]);
-        }
+        assert!(!lost || head(&after, place) == erased && data(&after, place) == [0xFF; 504]);
     }
     let (word, array) = read(&after);
     assert_eq!(word, 0);

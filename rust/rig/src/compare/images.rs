@@ -1,9 +1,11 @@
 //! The comparison of images: one call is made to libm25p.a and to the model, and every lent byte is compared, those
-//! that may only be read and those behind the lengths that are named, too.
+//! that may only be read and those around what is lent, too.
 
 mod tally;
 
 pub use tally::Images;
+
+use std::ops::Range;
 
 use m25p::calls;
 
@@ -13,20 +15,24 @@ use crate::image_model::{Call, ImageModel};
 use crate::rng::Rng;
 use tally::Met;
 
-/// A buffer that is lent: its bytes before the call, more than are lent, and the length that is named.
+/// A buffer that is lent: bytes before the call, and which of them are lent. There are others around them.
 #[derive(Clone)]
 pub struct Lent {
     pub bytes: Vec<u8>,
-    pub len: usize,
+    pub range: Range<usize>,
 }
 
 impl Lent {
     pub fn named(&self) -> &[u8] {
-        &self.bytes[..self.len]
+        &self.bytes[self.range.clone()]
     }
 
     fn lend(&mut self) -> &mut [u8] {
-        &mut self.bytes[..self.len]
+        &mut self.bytes[self.range.clone()]
+    }
+
+    pub fn length(&self) -> usize {
+        self.range.len()
     }
 }
 
@@ -68,8 +74,8 @@ impl Asked {
         let done = self.done.iter().flatten().map(|(place, which)| (place, DAMAGES[*which].name));
         let done: Vec<_> = done.take(20).collect();
         let Asked { call, part, image, other, .. } = self;
-        let (image, other) = (image.len, other.len);
-        format!("{call:?} part {part}, image_len {image}, other_len {other}, at first {done:?}")
+        let (image, other) = (&image.range, &other.range);
+        format!("{call:?} part {part}, image {image:?}, other {other:?}, at first {done:?}")
     }
 }
 

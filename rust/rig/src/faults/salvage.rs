@@ -78,40 +78,40 @@ pub fn head_of_block_0(_: usize, block: &[u8], reason: Reason) -> Vec<u8> {
 }
 
 /// Other blocks are found bad, or in another order.
-pub struct Finds(pub fn(Vec<(usize, Reason)>) -> Vec<(usize, Reason)>);
+pub struct Finds(pub fn(Vec<Lost>) -> Vec<Lost>);
 
 impl ImageModel for Finds {
-    fn lost(&self, image: &[u8]) -> Vec<(usize, Reason)> {
+    fn lost(&self, image: &[u8]) -> Vec<Lost> {
         self.0(Paper.lost(image))
     }
 }
 
 /// What stands behind the first bad block is not looked at.
-pub fn first_alone(mut lost: Vec<(usize, Reason)>) -> Vec<(usize, Reason)> {
+pub fn first_alone(mut lost: Vec<Lost>) -> Vec<Lost> {
     lost.truncate(1);
     lost
 }
 
 /// The last bad block is not found, where there are several.
-pub fn all_but_the_last(mut lost: Vec<(usize, Reason)>) -> Vec<(usize, Reason)> {
+pub fn all_but_the_last(mut lost: Vec<Lost>) -> Vec<Lost> {
     lost.truncate(lost.len().max(2) - 1);
     lost
 }
 
 /// The last one comes first.
-pub fn last_first(mut lost: Vec<(usize, Reason)>) -> Vec<(usize, Reason)> {
+pub fn last_first(mut lost: Vec<Lost>) -> Vec<Lost> {
     lost.reverse();
     lost
 }
 
 /// Those with a wrong number come first.
-pub fn numbers_first(mut lost: Vec<(usize, Reason)>) -> Vec<(usize, Reason)> {
+pub fn numbers_first(mut lost: Vec<Lost>) -> Vec<Lost> {
     lost.sort_by_key(|one| Paper.reason_number(one.1));
     lost
 }
 
 /// Of neighbours the first alone is found.
-pub fn one_of_neighbours(mut lost: Vec<(usize, Reason)>) -> Vec<(usize, Reason)> {
+pub fn one_of_neighbours(mut lost: Vec<Lost>) -> Vec<Lost> {
     lost.dedup_by(|next, before| next.0 == before.0 + 1);
     lost
 }
@@ -139,62 +139,62 @@ impl ImageModel for Enters {
 }
 
 /// The list is written otherwise.
-pub struct Lists(pub fn(&mut [u8], &[(usize, Reason)]));
+pub struct Lists(pub fn(&mut [u8], &[Lost]));
 
 impl ImageModel for Lists {
-    fn list(&self, list: &mut [u8], lost: &[(usize, Reason)]) {
+    fn list(&self, list: &mut [u8], lost: &[Lost]) {
         self.0(list, lost);
     }
 }
 
 /// Each bad block has the place of its number, and the others have gaps.
-pub fn with_gaps(list: &mut [u8], lost: &[(usize, Reason)]) {
+pub fn with_gaps(list: &mut [u8], lost: &[Lost]) {
     for one in lost {
         Paper.list(&mut list[one.0 * LIST_PLACE..], &[*one]);
     }
 }
 
 /// The last places are used.
-pub fn at_the_end(list: &mut [u8], lost: &[(usize, Reason)]) {
+pub fn at_the_end(list: &mut [u8], lost: &[Lost]) {
     let unused = list.len() / LIST_PLACE - lost.len();
     Paper.list(&mut list[unused * LIST_PLACE..], lost);
 }
 
 /// All are written to the first place.
-pub fn over_each_other(list: &mut [u8], lost: &[(usize, Reason)]) {
+pub fn over_each_other(list: &mut [u8], lost: &[Lost]) {
     lost.iter().for_each(|one| Paper.list(list, &[*one]));
 }
 
 /// The first place stays free.
-pub fn from_the_second_place(list: &mut [u8], lost: &[(usize, Reason)]) {
+pub fn from_the_second_place(list: &mut [u8], lost: &[Lost]) {
     Paper.list(&mut list[LIST_PLACE..], lost);
 }
 
 /// Nothing is listed.
-pub fn not_at_all(_: &mut [u8], _: &[(usize, Reason)]) {}
+pub fn not_at_all(_: &mut [u8], _: &[Lost]) {}
 
 /// The places behind the last used one are cleared.
-pub fn others_cleared(list: &mut [u8], lost: &[(usize, Reason)]) {
+pub fn others_cleared(list: &mut [u8], lost: &[Lost]) {
     let whole = list.len() / LIST_PLACE * LIST_PLACE;
     list[..whole].fill(0);
     Paper.list(list, lost);
 }
 
 /// The odd bytes at the end are cleared.
-pub fn odd_bytes_cleared(list: &mut [u8], lost: &[(usize, Reason)]) {
+pub fn odd_bytes_cleared(list: &mut [u8], lost: &[Lost]) {
     let whole = list.len() / LIST_PLACE * LIST_PLACE;
     list[whole..].fill(0);
     Paper.list(list, lost);
 }
 
 /// A place of FF ends the list, where there is one more.
-pub fn ended(list: &mut [u8], lost: &[(usize, Reason)]) {
+pub fn ended(list: &mut [u8], lost: &[Lost]) {
     Paper.list(list, lost);
     put(&mut list[lost.len() * LIST_PLACE..], &[0xFF; LIST_PLACE]);
 }
 
 /// These bytes of each place stay.
-fn kept(list: &mut [u8], lost: &[(usize, Reason)], kept: std::ops::Range<usize>) {
+fn kept(list: &mut [u8], lost: &[Lost], kept: std::ops::Range<usize>) {
     let before = list.to_vec();
     Paper.list(list, lost);
     for at in (0..lost.len()).map(|place| place * LIST_PLACE) {
@@ -203,12 +203,12 @@ fn kept(list: &mut [u8], lost: &[(usize, Reason)], kept: std::ops::Range<usize>)
 }
 
 /// The number has two bytes.
-pub fn number_in_two_bytes(list: &mut [u8], lost: &[(usize, Reason)]) {
+pub fn number_in_two_bytes(list: &mut [u8], lost: &[Lost]) {
     kept(list, lost, 2..4);
 }
 
 /// The reason has one byte.
-pub fn reason_in_a_byte(list: &mut [u8], lost: &[(usize, Reason)]) {
+pub fn reason_in_a_byte(list: &mut [u8], lost: &[Lost]) {
     kept(list, lost, 5..LIST_PLACE);
 }
 

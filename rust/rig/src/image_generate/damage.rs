@@ -20,7 +20,7 @@ pub struct Damage {
 pub type Done = BTreeMap<usize, usize>;
 
 /// The bad blocks in order, each with the reason, as what was done lets one expect.
-pub fn foreseen(done: &Done) -> Vec<(usize, Reason)> {
+pub fn foreseen(done: &Done) -> Vec<Lost> {
     let bad = done.iter().map(|(place, which)| (*place, (DAMAGES[*which].leaves)(*place)));
     bad.filter_map(|(place, reason)| Some((place, reason?))).collect()
 }

@@ -14,7 +14,7 @@ pub struct Met<'a> {
     bytes: usize,
     image: usize,
     /// The bad blocks of an image that is read or salvaged and has the part's length.
-    pub lost: Vec<(usize, Reason)>,
+    pub lost: Vec<Lost>,
 }
 
 impl<'a> Met<'a> {
@@ -31,7 +31,7 @@ impl<'a> Met<'a> {
 
     /// Whether the image has the part's length, and is read or salvaged.
     pub fn whole(&self) -> bool {
-        self.asked.call != Call::Write && self.image > 0 && self.asked.image.len == self.image
+        self.asked.call != Call::Write && self.image > 0 && self.asked.image.length() == self.image
     }
 
     fn answered(&self, call: Call, number: u8) -> bool {
@@ -50,25 +50,25 @@ impl<'a> Met<'a> {
 
     /// Whether the image alone has a wrong length, longer by so many bytes.
     fn image_longer(&self, bytes: isize) -> bool {
-        self.any(32) && self.asked.image.len as isize == self.image as isize + bytes
+        self.any(32) && self.asked.image.length() as isize == self.image as isize + bytes
     }
 
     /// Whether the image is refused with this length, which is not 0.
     fn image_of(&self, length: usize) -> bool {
-        self.any(32) && self.asked.image.len == length && length > 0
+        self.any(32) && self.asked.image.length() == length && length > 0
     }
 
     /// Whether the array has a wrong length, longer by so many bytes.
     fn array_longer(&self, bytes: isize) -> bool {
-        self.any(2) && self.asked.other.len as isize == self.bytes as isize + bytes
+        self.any(2) && self.asked.other.length() as isize == self.bytes as isize + bytes
     }
 
     fn array_of(&self, length: usize) -> bool {
-        self.any(2) && self.asked.other.len == length
+        self.any(2) && self.asked.other.length() == length
     }
 
     fn other_is(&self, length: usize) -> bool {
-        self.asked.other.len == length
+        self.asked.other.length() == length
     }
 
     /// How many blocks the image should have, and the place of the last.
@@ -82,16 +82,16 @@ impl<'a> Met<'a> {
 
     /// By how many bytes a list is longer than needed.
     fn list_longer(&self) -> isize {
-        self.asked.other.len as isize - (self.blocks() * LIST_PLACE) as isize
+        self.asked.other.length() as isize - (self.blocks() * LIST_PLACE) as isize
     }
 
     /// Whether a salvage was carried out, with such bad blocks.
-    fn salvaged(&self, such: impl FnOnce(&[(usize, Reason)]) -> bool) -> bool {
+    fn salvaged(&self, such: impl FnOnce(&[Lost]) -> bool) -> bool {
         self.answered(Call::Salvage, 0) && such(&self.lost)
     }
 
     /// Whether an image was refused as bad, with such bad blocks.
-    fn bad(&self, such: impl FnOnce(&[(usize, Reason)]) -> bool) -> bool {
+    fn bad(&self, such: impl FnOnce(&[Lost]) -> bool) -> bool {
         self.answered(Call::Read, 33) && such(&self.lost)
     }
 
@@ -101,7 +101,7 @@ impl<'a> Met<'a> {
 
     /// Whether a salvage found a bad block that is such.
     fn changed(&self, such: fn(usize, Reason, &[u8]) -> bool) -> bool {
-        let such = |lost: &(usize, Reason)| such(lost.0, lost.1, self.block(lost.0));
+        let such = |lost: &Lost| such(lost.0, lost.1, self.block(lost.0));
         self.salvaged(|lost| lost.iter().any(such))
     }
 
@@ -147,14 +147,14 @@ const REFUSED: [Event; 46] = [
     }),
     ("a part of 17 to 31 bits", |m| m.unknown(|part| part >> 16 != 0 && part as u16 <= 6)),
     ("a part with the highest bit", |m| m.unknown(|part| part << 1 < 14)),
-    ("31 alone", |m| m.any(31) && m.image > 0 && m.asked.image.len == m.image),
-    ("31 before 32", |m| m.any(31) && m.image > 0 && m.asked.image.len != m.image),
+    ("31 alone", |m| m.any(31) && m.image > 0 && m.asked.image.length() == m.image),
+    ("31 before 32", |m| m.any(31) && m.image > 0 && m.asked.image.length() != m.image),
     ("image a byte short", |m| m.image_longer(-1)),
     ("image a byte long", |m| m.image_longer(1)),
     ("image a block short", |m| m.image_longer(-512)),
     ("image a block long", |m| m.image_longer(512)),
     ("image 511 bytes long", |m| m.image_longer(511)),
-    ("image of no bytes", |m| m.any(32) && m.asked.image.len == 0),
+    ("image of no bytes", |m| m.any(32) && m.asked.image.length() == 0),
     ("image as long as the array", |m| m.image_of(m.bytes)),
     ("image as long as it has blocks", |m| m.image_of(m.blocks())),
     ("image of the bench part", |m| m.image_of(9 * 512)),
