@@ -110,13 +110,13 @@ impl Spot<'_> {
         self.sums(|_| sums)
     }
 
-    /// Adds to these bytes of the data, unless one of them would leave 0 to 255, or none would change.
+    /// Adds to these bytes of the data, unless one of them would leave 0 to 255.
     fn add(&mut self, changes: &[(usize, i32)]) -> bool {
         let data = self.data();
         let sum = |(at, more): &(usize, i32)| u8::try_from(i32::from(data[*at]) + more).ok();
         let Some(new) = changes.iter().map(sum).collect::<Option<Vec<u8>>>() else { return false };
         changes.iter().zip(new).for_each(|((at, _), byte)| data[*at] = byte);
-        changes.iter().all(|(_, more)| *more != 0)
+        true
     }
 
     /// The same with changes that are drawn, until they fit.

@@ -48,7 +48,7 @@ impl<'a> Met<'a> {
         self.any(31) && such(self.asked.part)
     }
 
-    /// Whether the image alone has a wrong length, longer by so many bytes.
+    /// Whether the image has a wrong length, longer by so many bytes.
     fn image_longer(&self, bytes: isize) -> bool {
         self.any(32) && self.asked.image.length() as isize == self.image as isize + bytes
     }
@@ -147,7 +147,9 @@ const REFUSED: [Event; 46] = [
     }),
     ("a part of 17 to 31 bits", |m| m.unknown(|part| part >> 16 != 0 && part as u16 <= 6)),
     ("a part with the highest bit", |m| m.unknown(|part| part << 1 < 14)),
-    ("31 alone", |m| m.any(31) && m.image > 0 && m.asked.image.length() == m.image),
+    ("31, and the image would fit", |m| {
+        m.any(31) && m.image > 0 && m.asked.image.length() == m.image
+    }),
     ("31 before 32", |m| m.any(31) && m.image > 0 && m.asked.image.length() != m.image),
     ("image a byte short", |m| m.image_longer(-1)),
     ("image a byte long", |m| m.image_longer(1)),
@@ -177,7 +179,7 @@ const REFUSED: [Event; 46] = [
 ];
 
 /// What was met in arrays, images and lists.
-const CARRIED_OUT: [Event; 37] = [
+const CARRIED_OUT: [Event; 38] = [
     ("34 with bad blocks", |m| m.any(34) && !m.lost.is_empty()),
     ("34 without a bad block", |m| m.any(34) && m.lost.is_empty()),
     ("array of FF", |m| m.answered(Call::Write, 0) && all(m.asked.other.named(), 0xFF)),
@@ -195,6 +197,7 @@ const CARRIED_OUT: [Event; 37] = [
     ("bad above block 255", |m| m.bad(|lost| lost[0].0 > 255)),
     ("nothing to salvage", |m| m.salvaged(|lost| lost.is_empty())),
     ("nothing to salvage, other filler", |m| m.salvaged(|lost| lost.is_empty()) && m.filler()),
+    ("zeros left in place 0", |m| m.salvaged(|_| all(m.block(0), 0x00))),
     ("one salvaged", |m| m.salvaged(|lost| lost.len() == 1)),
     ("all salvaged", |m| m.salvaged(|lost| lost.len() == m.blocks())),
     ("above 255 salvaged", |m| m.salvaged(|lost| lost.len() > 255)),
