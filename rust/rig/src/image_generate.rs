@@ -116,7 +116,8 @@ impl ImageGenerator {
         self.rng.below(DAMAGES.len())
     }
 
-    /// Damages a block from this one on: the first, the last, one before it, or any; of the last one its filler often.
+    /// Damages a block from this one on: the first, the last, one before it, or any; of the last one its filler
+    /// often.
     fn damage(&mut self, damaged: &mut Damaged, from: usize) {
         let last = damaged.blocks() - 1;
         let (any, high) = (from + self.rng.below(last + 1 - from), last - self.rng.below(5));

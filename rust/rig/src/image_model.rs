@@ -1,4 +1,5 @@
-//! A model of images: an array as blocks of 512 bytes with number and sums, written, read and salvaged, plain and slow.
+//! A model of images: an array as blocks of 512 bytes with number and sums, written, read and salvaged, plain and
+//! slow.
 //!
 //! As in the model of the chip each rule is a method.
 

@@ -1,5 +1,5 @@
-//! Images against the model, over all seven parts, and what holds of the calls themselves. RIG_RUNS and RIG_SEED make it
-//! longer or another.
+//! Images against the model, over all seven parts, and what holds of the calls themselves. RIG_RUNS and RIG_SEED make
+//! it longer or another.
 
 #[path = "support/parts.rs"]
 #[allow(dead_code)]
@@ -95,8 +95,8 @@ fn reads_back_what_was_written() {
     });
 }
 
-/// The list names exactly the blocks that differ afterwards, in order, each with the reason that its damage foretells;
-/// these are FF, the others stay, and the reader takes the image.
+/// The list names exactly the blocks that differ afterwards, in order, each with the reason that its damage
+/// foretells; these are FF, the others stay, and the reader takes the image.
 #[test]
 fn salvage_changes_what_it_lists() {
     let mut changed_in_all = 0;
@@ -140,8 +140,8 @@ fn salvaged_twice() {
     });
 }
 
-/// The reader takes an image just if there is nothing to salvage in it, and else names the block that is listed first.
-/// What it takes and is written again differs at most in what fills up the last block, and in that one's sums.
+/// The reader takes an image just if there is nothing to salvage in it, and else names the block that is listed
+/// first. What it takes and is written again differs at most in what fills up the last block, and in that one's sums.
 #[test]
 fn reader_and_salvage_agree() {
     let mut other_filler = 0;

@@ -180,8 +180,8 @@ fn every_length_of_an_array() {
     }
 }
 
-/// Numbers up to 70,000, and each part with one or two of the higher bits, have buffers that would fit the part of the
-/// low byte, or the bench part. All are unknown, and no byte changes in all this time.
+/// Numbers up to 70,000, and each part with one or two of the higher bits, have buffers that would fit the part of
+/// the low byte, or the bench part. All are unknown, and no byte changes in all this time.
 #[test]
 fn every_part_number() {
     let wide = (8..32).flat_map(|bit| (8..=bit).map(move |other| 1_u32 << bit | 1 << other));
@@ -201,8 +201,8 @@ fn every_part_number() {
     }
 }
 
-/// The largest part has blocks above 32,767: written, read with one of them bad, salvaged with some of them and with all
-/// blocks bad. Faults that show there alone are seen.
+/// The largest part has blocks above 32,767: written, read with one of them bad, salvaged with some of them and with
+/// all blocks bad. Faults that show there alone are seen.
 #[test]
 fn largest_part() {
     let (bytes, blocks) = (PARTS[4].bytes, 33_289);

@@ -1,10 +1,10 @@
 //! Worked cases of images, by hand from the paper, on libm25p.a and on the model beside it: heads, whole images, what
 //! is read and what is salvaged of them, and refused calls.
 //!
-//! How the sums were worked out. A byte b with k bytes behind it in the block adds b to the first sum and (k + 1) b to
-//! the second; a start of n adds n and 504 n. Of 504 bytes FF this makes 504 * 255 = 128,520 and
-//! 255 * (1 + ... + 504) = 255 * 127,260 = 32,451,300, which is 62,984 (F608) and 10,980 (2AE4) modulo 65,536. So block
-//! n of an array of FF has 62,984 + n and 10,980 + 504 n.
+//! How the sums were worked out. A byte b with k bytes behind it in the block adds b to the first sum and (k + 1) b
+//! to the second; a start of n adds n and 504 n. Of 504 bytes FF this makes 504 * 255 = 128,520 and 255 * (1 + ... +
+//! 504) = 255 * 127,260 = 32,451,300, which is 62,984 (F608) and 10,980 (2AE4) modulo 65,536. So block n of an array
+//! of FF has 62,984 + n and 10,980 + 504 n.
 
 #[path = "support/images.rs"]
 mod images;
@@ -114,12 +114,12 @@ fn erased_and_zeros() {
     }
 }
 
-/// Array byte a is a modulo 256. A run from 0 up to m with r bytes behind it adds m (m + 1) / 2, and (m + r + 1) times that
-/// less the squares up to m. Block 0 has 0 to 255 and 0 to 247: 32,640 + 30,628 = 63,268 (F724), and
-/// 504 * 32,640 - 5,559,680 + 248 * 30,628 - 5,053,620 = 13,433,004, which is 63,660 (F8AC). Block 1 has 248 to 255, 0 to 255
-/// and 0 to 239: 1 + 2,012 + 32,640 + 28,680 = 63,333 (F765), and 504 + 1,006,964 + 10,629,760 + 2,303,960 = 13,941,188, which
-/// is 47,556 (B9C4). Block 8 has 192 to 255 and 440 bytes FF: 8 + 14,304 + 112,200 = 126,512, which is 60,976 (EE30), and
-/// 4,032 + 6,736,800 + 24,740,100 = 31,480,932, which is 23,652 (5C64).
+/// Array byte a is a modulo 256. A run from 0 up to m with r bytes behind it adds m (m + 1) / 2, and (m + r + 1)
+/// times that less the squares up to m. Block 0 has 0 to 255 and 0 to 247: 32,640 + 30,628 = 63,268 (F724), and 504 *
+/// 32,640 - 5,559,680 + 248 * 30,628 - 5,053,620 = 13,433,004, which is 63,660 (F8AC). Block 1 has 248 to 255, 0 to
+/// 255 and 0 to 239: 1 + 2,012 + 32,640 + 28,680 = 63,333 (F765), and 504 + 1,006,964 + 10,629,760 + 2,303,960 =
+/// 13,941,188, which is 47,556 (B9C4). Block 8 has 192 to 255 and 440 bytes FF: 8 + 14,304 + 112,200 = 126,512, which
+/// is 60,976 (EE30), and 4,032 + 6,736,800 + 24,740,100 = 31,480,932, which is 23,652 (5C64).
 #[test]
 fn counting() {
     let array: Vec<u8> = (0..4_096).map(|at| at as u8).collect();
@@ -198,8 +198,8 @@ fn empty_disks() {
     assert!(image == write(0, &[0xFF; 4_096]));
 }
 
-/// Block 3 has number 7, block 5 a byte that is off by one, block 6 a first and block 7 a second sum that is off by 256;
-/// block 8 is filled up with zeros and says so.
+/// Block 3 has number 7, block 5 a byte that is off by one, block 6 a first and block 7 a second sum that is off by
+/// 256; block 8 is filled up with zeros and says so.
 #[test]
 fn salvaged() {
     let mut image = write(0, &[0x00; 4_096]);
@@ -275,8 +275,8 @@ fn heads() {
     }
 }
 
-/// Changes in an array of 50: two bytes exchanged and two that keep the first sum are seen; three that keep both are not,
-/// and the array that is read has them.
+/// Changes in an array of 50: two bytes exchanged and two that keep the first sum are seen; three that keep both are
+/// not, and the array that is read has them.
 #[test]
 fn what_sums_see() {
     let mut array = [0x50; 4_096];

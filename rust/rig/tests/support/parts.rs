@@ -16,8 +16,8 @@ pub struct Plan {
     pub share: [u64; PARTS.len()],
 }
 
-/// Runs one episode after the other over all parts by their shares: at least so many calls. RIG_SEED makes them others.
-/// An episode is told its part, its calls and its seed.
+/// Runs one episode after the other over all parts by their shares: at least so many calls. RIG_SEED makes them
+/// others. An episode is told its part, its calls and its seed.
 pub fn each_episode(
     what: &str,
     calls: u64,
@@ -61,7 +61,8 @@ pub fn differs(
     assert!(seen, "{name} was not seen in {episodes} episodes");
 }
 
-/// With a fault in the model the same comparison finds a difference, in one of so many episodes on these parts in turn.
+/// With a fault in the model the same comparison finds a difference, in one of so many episodes on these parts in
+/// turn.
 pub fn sees<S: Source>(name: &str, rules: Rules, plan: &Plan, parts: &[usize], episodes: usize) {
     let mut tally = Tally::default();
     differs(name, plan, parts, episodes, |part, calls, seed| {
