@@ -89,7 +89,8 @@ fn bad_images() {
     let first = "block 0: wrong number 2779096485: bytes 0 to 503 (0x000000 to 0x0001F7)\r\n";
     assert!(text.starts_with(&format!("{line}{first}")) && text.len() > 1 << 16, "a long list");
     assert_eq!(text.matches("checking").count(), 1);
-    for (file, sentence) in [("none", "none cannot be read: "), ("bad.img", "bad.img has 532992 ")] {
+    for (file, sentence) in [("none", "none cannot be read: "), ("bad.img", "bad.img has 532992 ")]
+    {
         let (text, status) = seen(&desk, &format!("exec \"$COMMAND\" --part 0 check {file}"));
         assert!(text.starts_with(sentence), "no step, no line: {text}");
         assert_eq!(status, Some(1));
