@@ -6,6 +6,7 @@ mod image;
 
 use std::ffi::OsStr;
 use std::fs;
+use std::io::{stderr, Write};
 use std::os::unix::ffi::OsStrExt;
 use std::os::unix::fs::symlink;
 
@@ -107,6 +108,19 @@ fn forms_exchanged() {
         let array = "chip.bin has 4096 bytes, which is the length of the array of the bench";
         assert_eq!(sentence, format!("{array}; an image of the bench has 4608."));
     }
+}
+
+/// A file that has fewer bytes than its length says, as it may be while another program writes it.
+#[test]
+fn length_that_is_not_true() {
+    let (desk, file) = (bench_desk("untrue"), "/sys/devices/system/cpu/possible");
+    if fs::metadata(file).map_or(0, |there| there.len()) != 4_096 {
+        let _ = writeln!(stderr(), "image: skipped: {file} is not there with 4,096 bytes");
+        return;
+    }
+    let bytes = fs::read(file).unwrap().len();
+    let sentence = desk.refused(&["write", "--part", "bench", file, "new"], "");
+    assert_eq!(sentence, format!("{file} has {bytes} bytes; the array of the bench has 4096."));
 }
 
 /// What is there already stays, unless it is to be replaced; what is not a file stays in any case.
