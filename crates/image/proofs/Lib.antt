@@ -10,3 +10,4 @@ pub mod Names
 pub mod Theorems
 pub mod Entries
 pub mod Seen
+pub mod Twice

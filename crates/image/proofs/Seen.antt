@@ -14,7 +14,7 @@ use Rattle.image.specs.Sums.{sumsFrom, sumsOf}
 use Rattle.image.specs.Blocks.{sumsIn, sameSums, reasonOf}
 
 -- the first sums over the same bytes are the same only if they started alike
-starts : (a b c d : ℕ) (xs : List ℕ) → a < 65536 → c < 65536 → sumsFrom a b xs .first ≡ sumsFrom c d xs .first → a ≡ c
+pub starts : (a b c d : ℕ) (xs : List ℕ) → a < 65536 → c < 65536 → sumsFrom a b xs .first ≡ sumsFrom c d xs .first → a ≡ c
 unfolding sumsFrom
 starts a b c d [] h k e = e
 starts a b c d (x ∷ xs) h k e =
@@ -22,7 +22,7 @@ starts a b c d (x ∷ xs) h k e =
     omega arith
 
 -- so they are not with one byte changed
-changed : (a b x y : ℕ) (pre post : List ℕ) → x < 256 → y < 256 → sumsFrom a b (pre ++ (x ∷ post)) .first ≡ sumsFrom a b (pre ++ (y ∷ post)) .first → x ≡ y
+pub changed : (a b x y : ℕ) (pre post : List ℕ) → x < 256 → y < 256 → sumsFrom a b (pre ++ (x ∷ post)) .first ≡ sumsFrom a b (pre ++ (y ∷ post)) .first → x ≡ y
 unfolding sumsFrom
 changed a b x y [] post h k e =
     let m : (a + x) % 65536 ≡ (a + y) % 65536 = starts ((a + x) % 65536) _ ((a + y) % 65536) _ post (omega arith) (omega arith) e in
@@ -47,7 +47,7 @@ good-is place b e = go (eqb (wordAt b 0) place) refl (sameSums (sumsIn b) (sumsO
     go false p t q z = absurd (omega (arith, z))
 
 -- one byte changed, in the number, in a sum or in the bytes of the array
-same-byte : (place x y : ℕ) (pre post : List ℕ) → x < 256 → y < 256 → Good place (pre ++ (x ∷ post)) → Good place (pre ++ (y ∷ post)) → x ≡ y
+pub same-byte : (place x y : ℕ) (pre post : List ℕ) → x < 256 → y < 256 → Good place (pre ++ (x ∷ post)) → Good place (pre ++ (y ∷ post)) → x ≡ y
 unfolding sumsOf
 same-byte place x y [] post h k s t = let e = s .number in let f = t .number in omega arith
 same-byte place x y (a ∷ []) post h k s t = let e = s .number in let f = t .number in omega arith

@@ -50,6 +50,10 @@ from-bad zero [] free e = absurd (omega (arith, e))
 from-bad zero (x ∷ xs) free e = (omega arith, refl)
 from-bad (suc k) xs free e = absurd (free e)
 
+some-bad : (xs : List ℕ) → 0 < length xs → foundBad xs .answer ≡ 33
+some-bad [] h = absurd (omega arith)
+some-bad (x ∷ xs) h = refl
+
 -- the writer's numbers are no 33
 copy-not-33 : (part array image : ℕ) → copyNumber part array image ≡ 33 → ⊥
 unfolding copyNumber
@@ -92,7 +96,7 @@ module _ {part : ℕ} {array image : List ℕ} {r : ℕ} {image′ : List ℕ} (
 -- ---- the reader
 
 module _ {part : ℕ} {image array : List ℕ} {r : Reply} {array′ : List ℕ} (d : Read part image array r array′) where
-  -- it answers 0 exactly if all blocks are good
+  -- where part and lengths fit, it answers 0 exactly if all blocks are good
   pub good-read : copyNumber part (length array) (length image) ≡ 0 → AllGood part image → r ≡ reply 0 0
   good-read k all = d .answer ∙ fine part image (length array) k all
 
@@ -101,6 +105,14 @@ module _ {part : ℕ} {image array : List ℕ} {r : Reply} {array′ : List ℕ}
   read-good z =
       let e = from-zero (copyNumber part (length array) (length image)) (badPlaces image (blocksOf part)) (sym (ap (λ (q : Reply). q .answer) (d .answer)) ∙ z) in
       names.all-good image (blocksOf part) (e .1)
+
+  -- and 33 where one is bad
+  pub bad-read : copyNumber part (length array) (length image) ≡ 0 → (p : ℕ) → p < blocksOf part → (reasonAt image p ≡ 0 → ⊥) → r .answer ≡ 33
+  unfolding readReply
+  bad-read k p h bad =
+      let s = names.all-named image (blocksOf part) p h bad in
+      let i = s .inside in
+      ap (λ (q : Reply). q .answer) (d .answer) ∙ rw k (some-bad (badPlaces image (blocksOf part)) (omega arith))
 
   -- with 33 it names the first bad block, and the array stays
   pub read-bad : r .answer ≡ 33 → (r .blocks < blocksOf part) × (reasonAt image (r .blocks) ≡ 0 → ⊥) × ((q : ℕ) → q < r .blocks → reasonAt image q ≡ 0) × (array′ ≡ array)
