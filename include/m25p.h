@@ -77,11 +77,11 @@
  *   The whole word may be other than 0 although the call was executed. Test m25p_answer(r), never the
  *   whole word: r == 0 is no test for executed.
  *
- *   Where nothing was driven, and on every number but 0, first and count are 0. The bits missing are 0 on
- *   every number but 0, for every transaction but a page program (02), and in every answer of m25p_deliver,
- *   m25p_wait, m25p_power_up and m25p_loss. m25p_pins gives the sum over its transactions; m25p_batch gives
- *   it in a buffer of its own, and its answer is the number alone. They are counted as the program starts,
- *   on the array that is lent to that call.
+ *   Of a call on a chip: where nothing was driven, and on every number but 0, first and count are 0. The bits
+ *   missing are 0 on every number but 0, for every transaction but a page program (02), and in every answer
+ *   of m25p_deliver, m25p_wait, m25p_power_up and m25p_loss. m25p_pins gives the sum over its transactions;
+ *   m25p_batch gives it in a buffer of its own, and its answer is the number alone. They are counted as the
+ *   program starts, on the array that is lent to that call.
  *
  *   The m25p_image calls drive and program nothing. Bits 16-47 are the first bad block where m25p_image_read
  *   answers 33, and how many blocks were changed where m25p_image_salvage answers 0; all else is 0 but the

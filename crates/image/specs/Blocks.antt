@@ -39,7 +39,7 @@ sumsIn b = record { first = halfAt b 4; second = halfAt b 6 }
 abbrev pub sameSums : Sums → Sums → Bool
 sameSums s t = eqb (s .first) (t .first) && eqb (s .second) (t .second)
 
--- 1 the number is not the block's place, 2 a sum is wrong, 0 the block is good; what fills up the last one is not looked at
+-- 1 the number is not the block's place, 2 a sum is wrong, 0 the block is good; what fills up the last one counts in the sums, and need not be FF
 unfoldable pub reasonOf : ℕ → List ℕ → ℕ
 reasonOf place b = cond (eqb (wordAt b 0) place) (cond (sameSums (sumsIn b) (sumsOf place (drop 8 b))) 0 2) 1
 

@@ -207,14 +207,14 @@ fn entry(place: usize, why: u8) -> [u8; 8]
 }
 
 // Notes a bad block at byte `at` of the list; the next free byte.
-fn note(list: &mut [u8], at: usize, place: usize, why: u8) -> usize
+fn note(list: &mut [u8], at: usize, place: usize, fault: u8) -> usize
     requires { ⌜ at + 8 ≤ length (now list) ⌝ }
-    ensures { λ r. ⌜ Noted (now (list .entry)) at place why r (now (list .exit)) ⌝ }
+    ensures { λ r. ⌜ Noted (now (list .entry)) at place fault r (now (list .exit)) ⌝ }
 {
-    if why == 0 {
+    if fault == 0 {
         return at;
     }
-    let line = entry(place, why);
+    let line = entry(place, fault);
     slices::store(list, at, &line);
     at + 8
 }

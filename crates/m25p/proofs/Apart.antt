@@ -143,7 +143,7 @@ batch-apart packed array items responses answers missing b =
 
 -- ---- images
 
--- the writer answers at most 32
+-- the writer's numbers, none of which is above 41
 copy-few : (part array image : ℕ) → copyNumber part array image ≤ 41
 unfolding copyNumber
 copy-few part array image =

@@ -9,7 +9,7 @@ use Rattle.image.specs.declared.Sums.{Sums}
 use Rattle.image.specs.Sums.{sumsFrom, sumsOf}
 use Rattle.image.specs.Blocks.{headOf, filledUp, blockOf, reasonOf, salvagedOf}
 use Rattle.image.specs.Images.{imaged, unimaged, mended, badPlaces, listed}
-use Rattle.image.specs.Calls.{blocksOf, copyNumber, salvageNumber, foundBad, salvageReply, imageSalvaged, listSalvaged}
+use Rattle.image.specs.Calls.{blocksOf, copyNumber, salvageNumber, foundBad, readReply, salvageReply, arrayRead, imageSalvaged, listSalvaged}
 use Rattle.m25p.specs.Calls.{packedAnswer}
 use Rattle.m25p.specs.Image.{withBlocks}
 
@@ -119,11 +119,14 @@ pub record Small : Type 0 where
   pub stored : mapAt (stored 0 (listed (0 ∷ 0 ∷ 0 ∷ 0 ∷ 1 ∷ replicate 507 0) (0 ∷ 258 ∷ []))) (replicate 18 0xAA) ≡ 0 ∷ 0 ∷ 0 ∷ 0 ∷ 2 ∷ 0 ∷ 0 ∷ 0 ∷ 2 ∷ 1 ∷ 0 ∷ 0 ∷ 1 ∷ 0 ∷ 0 ∷ 0 ∷ 0xAA ∷ 0xAA ∷ []
   -- salvaged: the bad ones FF, the good one as it was
   pub salvaged : map (λ (i : ℕ). mended damaged i 0xAA) (0 ∷ 4 ∷ 5 ∷ 8 ∷ 511 ∷ 512 ∷ 520 ∷ 616 ∷ 1024 ∷ 1028 ∷ 1032 ∷ 1535 ∷ []) ≡ 0 ∷ 0x08 ∷ 0xF6 ∷ 0xFF ∷ 0xFF ∷ 1 ∷ 0x3C ∷ 0xFF ∷ 2 ∷ 0x0A ∷ 0xFF ∷ 0xFF ∷ []
+  -- 4,608 zeros: block 0 is good, block 1 is not; 2 comes before 33, and with 33 the array is as it came
+  pub zeros : readReply 0 (replicate 4608 0) 4095 ∷ readReply 0 (replicate 4608 0) 4096 ∷ [] ≡ record { answer = 2; blocks = 0 } ∷ record { answer = 33; blocks = 1 } ∷ []
+  pub array-kept : arrayRead 0 (replicate 4608 0) (replicate 4096 0xAA) ≡ replicate 4096 0xAA
   -- refused, all is as it came
   pub refused : salvageReply 7 damaged 0 ≡ record { answer = 31; blocks = 0 }
   pub image-kept : imageSalvaged 0 damaged [] ≡ damaged
   pub list-kept : listSalvaged 0 damaged (0xAA ∷ 0xBB ∷ []) ≡ 0xAA ∷ 0xBB ∷ []
 
 pub small : Small
-unfolding figuresOf sumsFrom sumsOf blockOf filledUp mapAt stored reasonOf salvagedOf badPlaces listed blocksOf salvageNumber salvageReply
-small = record { image = refl; array = refl; good = refl; places = refl; list = refl; stored = refl; salvaged = refl; refused = refl; image-kept = refl; list-kept = refl }
+unfolding figuresOf sumsFrom sumsOf blockOf filledUp mapAt stored reasonOf salvagedOf badPlaces listed blocksOf copyNumber salvageNumber readReply salvageReply
+small = record { image = refl; array = refl; good = refl; places = refl; list = refl; stored = refl; salvaged = refl; zeros = refl; array-kept = refl; refused = refl; image-kept = refl; list-kept = refl }

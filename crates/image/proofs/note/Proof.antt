@@ -10,13 +10,13 @@ use Rattle.image.proofs.note.Tie as tie
 returns : tie.Need-returns
 returns c =
     let x = c .before .before .args in
-    let z = note-none (x .place) (x .why) (c .if1 .taken) in
+    let z = note-none (x .place) (x .fault) (c .if1 .taken) in
     record { next = rw (z, add-zero); places = rw z (stored-none (x .at) (x .list .now)) }
 
 returns-2 : tie.Need-returns-2
 returns-2 c =
     let x = c .before .before .before .before .before .before .before .before .args in
-    let z = note-some (x .place) (x .why) (c .before .before .before .before .before .before .if1 .left) in
+    let z = note-some (x .place) (x .fault) (c .before .before .before .before .before .before .if1 .left) in
     record { next = rw z; places = c .before .before .store .ensures ∙ rw (c .before .before .before .before .before .entry .ensures, z) }
 
 pub note-spec : {M : Type 1} → statement M

@@ -25,7 +25,7 @@ check    prints a line for each bad block: its place, from 0 on; 'wrong number' 
          decimal and in hexadecimal. Two blocks that have each other's number may have been
          exchanged. Then come the totals
 salvage  makes the image OUT, which is IN with a good block of FF in the place of each bad one, and
-         prints the same lines: the bytes in them are lost. Good blocks stay as they are. OUT is
+         prints the same lines with 'are lost' behind them. Good blocks stay as they are. OUT is
          written whether anything is lost or not, and can be read
 
 PART     a number or a name, in any case: 0 bench, 1 M25P10-A, 2 M25P40, 3 M25P32, 4 M25P128,
