@@ -81,6 +81,6 @@ fn examine(
     if bad.is_empty() {
         Ok(())
     } else {
-        Err(Failure::Silent)
+        Err(Failure::Bad)
     }
 }

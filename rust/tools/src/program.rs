@@ -12,8 +12,10 @@ pub type Out = BufWriter<StdoutLock<'static>>;
 pub enum Failure {
     /// What is to be said on standard error.
     Sentence(String),
-    /// Nothing more is to be said: it was printed, or whoever read the output has gone.
+    /// Nothing is to be said: whoever read the output has gone.
     Silent,
+    /// All was done, and what was printed tells of something bad.
+    Bad,
 }
 
 impl From<String> for Failure {
@@ -45,13 +47,17 @@ pub fn run(
     };
     // What was printed before a failure is seen before its sentence.
     let flushed = out.flush().map_err(Failure::from);
-    match done.and(flushed) {
+    let ended = match done {
+        Err(Failure::Bad) => flushed.and(done),
+        _ => done.and(flushed),
+    };
+    match ended {
         Ok(()) => ExitCode::SUCCESS,
-        Err(failure) => {
-            if let Failure::Sentence(sentence) = failure {
-                let _ = writeln!(stderr(), "{sentence}");
-            }
+        Err(Failure::Sentence(sentence)) => {
+            let _ = writeln!(stderr(), "{sentence}");
             ExitCode::FAILURE
         }
+        Err(Failure::Silent) => ExitCode::FAILURE,
+        Err(Failure::Bad) => ExitCode::from(2),
     }
 }

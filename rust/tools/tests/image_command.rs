@@ -130,7 +130,9 @@ fn output_that_is_not_read_to_its_end() {
     salvaged[..504].fill(0);
     assert!(desk.get("new.img") == image_of(&salvaged));
     desk.put("chip.bin", array(Part::Bench, 5));
-    for words in ["--help", "check --part 4 zero.img", "write --part 0 chip.bin made.img"] {
+    desk.put("few.img", vec![0; Part::Bench.image_bytes()]);
+    let checks = ["check --part 4 zero.img", "check --part 0 few.img"];
+    for words in checks.into_iter().chain(["--help", "write --part 0 chip.bin made.img"]) {
         let full = desk.shell(&format!("\"$COMMAND\" {words} >/dev/full")).output().unwrap();
         let said = String::from_utf8(full.stderr).unwrap();
         assert!(said.starts_with("Standard output cannot be written: "), "{words}: {said}");

@@ -82,7 +82,7 @@ fn bad_images() {
     let line = line_of(&["reading 4608 bytes", "checking 9 blocks"]);
     let block = "block 1: wrong number 7: bytes 504 to 1007 (0x0001F8 to 0x0003EF)\r\n";
     assert!(text.starts_with(&format!("{line}{block}")), "{text}");
-    assert_eq!(status, Some(1));
+    assert_eq!(status, Some(2));
     desk.put("bad.img", vec![0xA5; 532_992]);
     let (text, _) = seen(&desk, "exec \"$COMMAND\" --part 2 check bad.img");
     let line = line_of(&["reading 532992 bytes", "checking 1041 blocks"]);

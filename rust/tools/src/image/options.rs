@@ -33,7 +33,7 @@ PART     a number or a name, in any case: 0 bench, 1 M25P10-A, 2 M25P40, 3 M25P3
 --force  replaces OUT if it is there; without it, OUT must not be there
 
 IN is never changed, and OUT is written as a whole or not at all. The exit status is 0 if all was done
-and no block was bad; it is 1 where something is bad, lost or fails.";
+and no block was bad, 2 if all was done and a check or a salvage found bad blocks, and 1 if not.";
 
 const NAME: &str = "image";
 

@@ -114,10 +114,10 @@ pub fn printed(output: Output) -> String {
     String::from_utf8(output.stdout).unwrap()
 }
 
-/// What a command printed that found something bad, which is a failure without a sentence.
+/// What a command printed that found something bad, which has an exit status of its own and no sentence.
 pub fn found(output: Output) -> String {
     let complaint = String::from_utf8_lossy(&output.stderr);
-    assert!(output.status.code() == Some(1) && complaint.is_empty(), "{complaint}");
+    assert!(output.status.code() == Some(2) && complaint.is_empty(), "{complaint}");
     String::from_utf8(output.stdout).unwrap()
 }
 
