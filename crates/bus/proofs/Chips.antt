@@ -69,6 +69,12 @@ array-set (d ∷ ds) xs (suc k) c h e =
     ∙ (ap (λ (t : List ℕ). t ++ (c .array ++ drop (f + bytesOf (at ds k)) (drop b xs))) (sym (take-add b f xs))
     ∙ ap (λ (t : List ℕ). take (b + f) xs ++ (c .array ++ t)) (drop-drop (f + bytesOf (at ds k)) b xs ∙ ap (λ (n : ℕ). drop n xs) z)))
 
+-- another chip with the same bytes
+pub array-same : (cs : List Chip) (k : ℕ) (c : Chip) → c .array ≡ nth cs k .array → arrayOf (set cs k c) ≡ arrayOf cs
+array-same [] k c e = refl
+array-same (b ∷ cs) zero c e = ap (λ (t : List ℕ). t ++ arrayOf cs) e
+array-same (b ∷ cs) (suc k) c e = ap (λ (t : List ℕ). b .array ++ t) (array-same cs k c e)
+
 -- one chip more
 pub chips-next : (ds : List Device) (xs : List ℕ) (i : ℕ) → i < length ds → chipsIn (take (suc i) ds) xs ≡ chipsIn (take i ds) xs ++ (chip (at ds i) (take (bytesOf (at ds i)) (drop (sumOf (take i ds)) xs)) ∷ [])
 chips-next [] xs i h = absurd (omega arith)

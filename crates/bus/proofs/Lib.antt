@@ -7,3 +7,6 @@ pub mod Waits
 pub mod Eight
 pub mod Places
 pub mod Count
+pub mod Whole
+pub mod Runs
+pub mod Theorems

@@ -7,13 +7,12 @@ use Prim.Native.Nat.{ℕ, suc, _+_, _-_, _≤_, _<_}
 use native.Mathlib.Omega.{arith}
 use lib.ListN.{length, set, take, drop, length-take, take-append-drop}
 use lib.Seq.{take-take, getD-take, take-set-lt, drop-set-lt}
-use Rattle.slices.specs.Chosen.{onZero}
 use Rattle.slices.proofs.Choices.{other}
 use Rattle.device.specs.declared.Device.{Device}
 use Rattle.device.specs.Device.{zeroRecord}
 use Rattle.device.specs.Chip.{Chip, chip}
 use Rattle.chip.specs.declared.Answer.{Answer}
-use Rattle.chip.specs.Outcome.{bare, transacted, Meets}
+use Rattle.chip.specs.Outcome.{Outcome, bare, transacted, Meets}
 use Rattle.chip.specs.Events.{left}
 use Rattle.bus.specs.Bus.{bytesOf, sumOf, chipsIn, rowOf, arrayOf, at, nth}
 use Rattle.bus.specs.Calls.{busNumber, Shared, chosen, bused, Turns}
@@ -21,6 +20,22 @@ use Rattle.bus.specs.Found.{partly}
 use Rattle.bus.proofs.Rows.{sum-next, sum-less}
 use Rattle.bus.proofs.Numbers.{bus-zero}
 use Rattle.bus.proofs.Chips.{chip-at, row-set, array-set}
+
+-- what is left when chip k did what o says, and the others nothing
+abbrev pub shared : List Device → List ℕ → ℕ → Outcome → Shared
+shared row array k o = record { answer = o .answer; row = rowOf (set (chipsIn row array) k (left o)); array = arrayOf (set (chipsIn row array) k (left o)); response = o .response }
+
+-- 0: that is what a transaction with chip k leaves
+pub done-is : (row : List Device) (array : List ℕ) (k : ℕ) (sent : List ℕ) (pulses : ℕ) (w : Bool) (response : List ℕ) → busNumber row (length array) k ≡ 0
+    → bused row array k sent pulses w response ≡ shared row array k (transacted (nth (chipsIn row array) k .device) (nth (chipsIn row array) k .array) sent pulses w response)
+unfolding bused chosen
+done-is row array k sent pulses w response z = rw z
+
+-- any other number: everything as it came
+pub refused-is : (row : List Device) (array : List ℕ) (k : ℕ) (sent : List ℕ) (pulses : ℕ) (w : Bool) (response : List ℕ) → (busNumber row (length array) k ≡ 0 → ⊥)
+    → record { answer = bare (busNumber row (length array) k); row = row; array = array; response = response } ≡ bused row array k sent pulses w response
+unfolding bused
+refused-is row array k sent pulses w response h = other (busNumber row (length array) k) _ _ h
 
 module _ (ds : List Device) (n k : ℕ) (xs : List ℕ) where
   -- 0: the chosen chip is one of the first n and of the first eight places, and its bytes are in the array
@@ -41,9 +56,8 @@ module _ (ds : List Device) (n k : ℕ) (xs : List ℕ) where
   module _ (sent : List ℕ) (pulses : ℕ) (w : Bool) (response : List ℕ) where
     -- refused: everything as it came
     pub turn-refused : (busNumber (take n ds) (length xs) k ≡ 0 → ⊥) → {a : Answer} → a ≡ bare (busNumber (take n ds) (length xs) k) → Turns n ds (bused (take n ds) xs k sent pulses w response) a ds xs response
-    unfolding bused
     turn-refused h {a} p =
-        let r : record { answer = bare (busNumber (take n ds) (length xs) k); row = take n ds; array = xs; response = response } ≡ bused (take n ds) xs k sent pulses w response = other (busNumber (take n ds) (length xs) k) _ _ h in
+        let r = refused-is (take n ds) xs k sent pulses w response h in
         record { answer = p ∙ ap (λ (s : Shared). s .answer) r; records = sym (take-append-drop n ds) ∙ ap (λ (s : Shared). s .row ++ drop n ds) r; memory = ap (λ (s : Shared). s .array) r; line = ap (λ (s : Shared). s .response) r }
 
     -- the chosen chip did what a transaction does to it on its own bytes, and its record was stored
@@ -58,10 +72,9 @@ module _ (ds : List Device) (n k : ℕ) (xs : List ℕ) where
         let b : e - a ≡ bytesOf (at ds k) = omega arith in
         let o = transacted (at ds k) (take (e - a) (drop a xs)) sent pulses w response in
         let cs = chipsIn (take n ds) xs in
+        let together : Outcome → Shared = shared (take n ds) xs k in
         let c : nth cs k ≡ chip (at ds k) (take (e - a) (drop a xs)) = rw b (chip-at (take n ds) xs k (h .1) ∙ ap₂ (λ (v : Device) (f : ℕ). chip v (take (bytesOf v) (drop f xs))) d t) in
-        let s : bused (take n ds) xs k sent pulses w response ≡ record { answer = o .answer; row = rowOf (set cs k (left o)); array = arrayOf (set cs k (left o)); response = o .response } =
-        ap (λ (x : ℕ). onZero x (record { answer = chosen cs k sent pulses w response .answer; row = rowOf (set cs k (left (chosen cs k sent pulses w response))); array = arrayOf (set cs k (left (chosen cs k sent pulses w response))); response = chosen cs k sent pulses w response .response }) (record { answer = bare (busNumber (take n ds) (length xs) k); row = take n ds; array = xs; response = response })) z
-        ∙ ap (λ (v : Chip). let u = transacted (v .device) (v .array) sent pulses w response in record { answer = u .answer; row = rowOf (set cs k (left u)); array = arrayOf (set cs k (left u)); response = u .response }) c in
+        let s : bused (take n ds) xs k sent pulses w response ≡ together o = done-is (take n ds) xs k sent pulses w response z ∙ ap (λ (v : Chip). together (transacted (v .device) (v .array) sent pulses w response)) c in
         record {
           answer = m .answer ∙ ap (λ (v : Shared). v .answer) (sym s);
           records = ap (set ds k) (m .device)

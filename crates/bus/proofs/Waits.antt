@@ -22,6 +22,12 @@ use Rattle.bus.proofs.Rows.{at-any, sum-next, sum-less}
 use Rattle.bus.proofs.Numbers.{wait-zero}
 use Rattle.bus.proofs.Chips.{chips-next, row-append, array-append}
 
+-- 0: what a wait leaves
+pub passed-is : (row : List Device) (array : List ℕ) (t : ℕ) → waitNumber row (length array) ≡ 0
+    → busWaited row array t ≡ record { answer = 0; row = rowOf (allWait (chipsIn row array) t); array = arrayOf (allWait (chipsIn row array) t) }
+unfolding busWaited
+passed-is row array t z = rw z
+
 -- 0: n is at most eight
 pub wait-few : (ds : List Device) (n array : ℕ) → waitNumber (take n ds) array ≡ 0 → length ds ≡ 9 → n ≤ 8
 wait-few ds n array z nine = let h = wait-zero (take n ds) array z in let l = length-take n ds in omega (arith, h .few, l)
