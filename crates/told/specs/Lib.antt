@@ -1,4 +1,4 @@
--- The definitions of `slices`, `parts`, `memory`, `device`, `chip`, `batch`, `image` and `m25p` told a second time: literal numbers, written from the paper and computed by the checker.
+-- The definitions of `slices`, `parts`, `memory`, `device`, `chip`, `batch`, `image`, `bus` and `m25p` told a second time: literal numbers, written from the paper and computed by the checker.
 pub mod Figures
 pub mod Cycles
 pub mod Record
@@ -23,3 +23,4 @@ pub mod Locked
 pub mod PeCalls
 pub mod Batches
 pub mod Images
+pub mod Buses
