@@ -32,7 +32,8 @@ range-is n e =
 pub in-range : (n : ℕ) → 0 < n → n ≤ 8 → outOfRange n ≡ false
 in-range n a b = rw (ne-eqb n 0 (λ e. omega arith), le-ltb 8 n b)
 
-out-above : (n : ℕ) → 8 < n → outOfRange n ≡ true
+-- more than eight
+pub out-above : (n : ℕ) → 8 < n → outOfRange n ≡ true
 out-above n h = rw (lt-ltb 8 n h) (or-true (eqb n 0))
 
 module _ (ds : List Device) (n : ℕ) (nine : length ds ≡ 9) where

@@ -1,6 +1,6 @@
 -- The numbers of every call's answer come apart again, by the bits that docs/C-CALLS.md names, without a premise.
 -- Assumes nothing.
-use mathlib.Core.Path.{_≡_}
+use mathlib.Core.Path.{_≡_, refl}
 use mathlib.Core.Bool.{Bool, not, _&&_, _||_}
 use mathlib.Core.List.{List, [], _∷_}
 use Prim.Native.Nat.{ℕ, _*_, _/_, _%_, _≤_, _<_}
@@ -8,6 +8,7 @@ use native.Mathlib.Omega.{arith}
 use lib.Dec.{eqb, ltb, lit≤}
 use lib.ListN.{length}
 use Rattle.slices.proofs.Choices.{cond-ind, zero-ind}
+use Rattle.memory.specs.Missing.{mostMissing}
 use Rattle.parts.specs.Parts.{figuresOf, knownPart}
 use Rattle.device.specs.declared.Device.{Device}
 use Rattle.device.specs.Chip.{Chip, chip}
@@ -27,10 +28,13 @@ use Rattle.image.specs.declared.Reply.{Reply}
 use Rattle.image.specs.Images.{badPlaces}
 use Rattle.image.specs.Calls.{blocksOf, copyNumber, salvageNumber, foundBad, readReply, salvageReply}
 use Rattle.image.proofs.Calls.{read-few, salvage-few}
+use Rattle.bus.specs.Calls.{Shared, Waited}
 use Rattle.m25p.specs.Calls.{packedAnswer, high, transactedC, Called, timedC, CalledOn, deliveryC, DeliveredC}
 use Rattle.m25p.specs.Pins.{pinsC, RanC}
 use Rattle.m25p.specs.Batch.{batchC, BatchedC}
 use Rattle.m25p.specs.Image.{withBlocks, WrittenC, ReadC, SalvagedC}
+use Rattle.m25p.specs.Bus.{recordsIn, rowAnswer, busedC, BusedC, busWaitedC, BusWaitedC}
+use Rattle.m25p.proofs.Bus.{turned-few, waited-few}
 
 -- bits 0 to 7, 8 to 15, 16 to 47 and 48 to 63 are the answer's numbers, and there are no bits above
 pub record Apart (r : ℕ) (a : Answer) : Type 0 where
@@ -181,3 +185,23 @@ salvage-apart part image list d =
     (cond-ind P (not (knownPart part)) (lit≤ tt)
     (cond-ind P (not (eqb (length image) (blocksOf part * 512))) (lit≤ tt) (cond-ind P (ltb (length list / 8) (blocksOf part)) (lit≤ tt) (lit≤ tt)))))
     (salvage-few part image (length list))
+
+-- ---- a bus
+
+-- a transaction with one chip of a row
+pub bus-transact-apart : (row array : List ℕ) (k : ℕ) (sent : List ℕ) (pulses w : ℕ) (response : List ℕ) {r : ℕ} {row′ array′ response′ : List ℕ}
+    → BusedC (busedC row array k sent pulses w response) row r row′ array′ response′ → Apart r (busedC row array k sent pulses w response .answer)
+unfolding busedC
+bus-transact-apart row array k sent pulses w response p =
+    let f : (busedC row array k sent pulses w response .answer .number ≤ 53) × (busedC row array k sent pulses w response .answer .first ≤ 5) × (busedC row array k sent pulses w response .answer .count ≤ 65536) × (busedC row array k sent pulses w response .answer .missing ≤ mostMissing) =
+    zero-ind (λ (o : Shared). (o .answer .number ≤ 53) × (o .answer .first ≤ 5) × (o .answer .count ≤ 65536) × (o .answer .missing ≤ mostMissing)) (rowAnswer (length row))
+    (turned-few array k sent pulses (high w) response (recordsIn row) refl)
+    (cond-ind (λ (n : ℕ). n ≤ 53) (eqb (length row % packedLength) 0) (lit≤ tt) (lit≤ tt), lit≤ tt, lit≤ tt, lit≤ tt) in
+    rw (p .answer) (apart _ (omega (arith, f .0)) (omega (arith, f .1)) (omega (arith, f .2)) (omega (arith, f .3)))
+
+-- a wait of every chip of a row
+pub bus-wait-apart : (row array : List ℕ) (t : ℕ) {r : ℕ} {row′ array′ : List ℕ} → BusWaitedC (busWaitedC row array t) row r row′ array′ → Apart r (bare (busWaitedC row array t .answer))
+unfolding busWaitedC
+bus-wait-apart row array t p =
+    let f : busWaitedC row array t .answer ≤ 53 = zero-ind (λ (o : Waited). o .answer ≤ 53) (rowAnswer (length row)) (waited-few (recordsIn row) array t) (cond-ind (λ (n : ℕ). n ≤ 53) (eqb (length row % packedLength) 0) (lit≤ tt) (lit≤ tt)) in
+    rw (p .answer) (apart (bare (busWaitedC row array t .answer)) (omega (arith, f)) (omega arith) (omega arith) (omega arith))

@@ -4,3 +4,5 @@ pub mod Pins
 pub mod Batch
 pub mod Image
 pub mod Apart
+pub mod Records
+pub mod Bus

@@ -3,3 +3,4 @@ pub mod Calls
 pub mod Pins
 pub mod Batch
 pub mod Image
+pub mod Bus

@@ -1,4 +1,4 @@
-// The C calls: delivery, transaction, wait, power-up, power loss, raw pins and a batch over the packed bytes of a record; and images.
+// The C calls: delivery, transaction, wait, power-up, power loss, raw pins and a batch over the packed bytes of a record; images; and a bus over the packed bytes of a row of records.
 ghost use mathlib.Core.Path.{_≡_};
 ghost use Prim.Native.Nat.{_≤_, _<_};
 ghost use Rattle.memory.specs.Missing.{mostMissing};
@@ -10,7 +10,11 @@ ghost use Rattle.m25p.specs.Calls.{packedAnswer, transactedC, Called, hi
 ghost use Rattle.m25p.specs.Pins.{RanC};
 ghost use Rattle.m25p.specs.Batch.{BatchedC};
 ghost use Rattle.m25p.specs.Image.{withBlocks, WrittenC, ReadC, SalvagedC};
+ghost use Rattle.m25p.specs.Bus.{busedC, BusedC, busWaitedC, BusWaitedC};
 ghost use Rattle.chip.specs.Outcome;
+// Rows of packed records.
+mod rows;
+
 use chip::Answer;
 use device::Device;
 use device::packing::LENGTH;
@@ -203,4 +207,52 @@ pub extern "C" fn m25p_image_salvage(part: u32, image: &mut [u8], list: &mut [u8
     ensures { λ r. ⌜ SalvagedC part (now (image .entry)) (now (list .entry)) r (now (image .exit)) (now (list .exit)) ⌝ }
 {
     blocks_answer(image::salvage(part, image, list))
+}
+
+// One transaction with one chip of a row: its packed record is written anew, and the others' stay.
+#[no_mangle]
+pub extern "C" fn m25p_bus_transact(
+    row: &mut [u8],
+    array: &mut [u8],
+    chip: u32,
+    sent: &[u8],
+    pulses: u32,
+    w: u32,
+    response: &mut [u8],
+) -> u64
+    ensures { λ r. ⌜ BusedC (busedC (now (row .entry)) (now (array .entry)) chip (now (sent .entry)) pulses w (now (response .entry))) (now (row .entry)) r (now (row .exit)) (now (array .exit)) (now (response .exit)) ⌝ }
+{
+    let n = row.len() / LENGTH;
+    if row.len() % LENGTH != 0 {
+        return bare(8);
+    }
+    let at = chip as usize;
+    let records = rows::read(row);
+    let done = bus::transact(records, n, at, array, sent, pulses, w != 0, response);
+    let answer = done.answer;
+    if answer.number != 0 {
+        return packed_answer(answer);
+    }
+    let next = done.row;
+    rows::write(next, at, at + 1, row);
+    packed_answer(answer)
+}
+
+// Every chip of a row waits `ticks`, each on its own bytes.
+#[no_mangle]
+pub extern "C" fn m25p_bus_wait(row: &mut [u8], array: &mut [u8], ticks: u32) -> u64
+    ensures { λ r. ⌜ BusWaitedC (busWaitedC (now (row .entry)) (now (array .entry)) ticks) (now (row .entry)) r (now (row .exit)) (now (array .exit)) ⌝ }
+{
+    let n = row.len() / LENGTH;
+    if row.len() % LENGTH != 0 {
+        return bare(8);
+    }
+    let records = rows::read(row);
+    let done = bus::wait(records, n, array, ticks);
+    if done.answer != 0 {
+        return bare(done.answer);
+    }
+    let next = done.row;
+    rows::write(next, 0, n, row);
+    bare(0)
 }
