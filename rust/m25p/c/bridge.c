@@ -94,6 +94,10 @@ static uint64_t call(const struct request *r)
         return m25p_image_read(N(0), S(0), S(1));
     case 9:
         return m25p_image_salvage(N(0), S(0), S(1));
+    case 10:
+        return m25p_bus_transact(S(0), S(1), N(0), S(2), N(1), N(2), S(3));
+    case 11:
+        return m25p_bus_wait(S(0), S(1), N(0));
     default:
         fprintf(stderr, "bridge: there is no call %u\n", (unsigned)r->call);
         exit(1);

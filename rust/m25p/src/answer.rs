@@ -21,11 +21,11 @@ pub enum Answer {
     Pulses = 4,
     /// The response is shorter than what is sent.
     ResponseLength = 5,
-    /// The record is not sound, or not packed so.
+    /// The record, or one of a row, is not sound, or not packed so.
     RecordUnsound = 6,
     /// Delivery: a duration outside 1 to 1,000,000.
     Duration = 7,
-    /// The packed record is not [`RECORD_BYTES`](crate::RECORD_BYTES) long.
+    /// The packed record is not [`RECORD_BYTES`](crate::RECORD_BYTES) long, or a row of them not a multiple of that.
     RecordLength = 8,
     /// Batch: a cut item, a flag above 16, or a wait not of length 4.
     BadItem = 9,
@@ -65,11 +65,18 @@ pub enum Answer {
     ListRoom = 34,
     /// Power loss: the mask is not [`MASK_BYTES`](crate::MASK_BYTES) long.
     MaskLength = 41,
+    /// Bus: a row of no chip, or of more than [`MOST_CHIPS`](crate::bus::MOST_CHIPS).
+    RowLength = 51,
+    /// Bus: the chosen chip is not in the row.
+    ChipNotThere = 52,
+    /// Bus: the array's length is not the sum of the parts' sizes; it stands in the place of
+    /// [`Answer::ArrayLength`].
+    BusArray = 53,
 }
 
 impl Answer {
     /// All answers, by number.
-    pub const ALL: [Answer; 28] = [
+    pub const ALL: [Answer; 31] = [
         Answer::Executed,
         Answer::UnknownPart,
         Answer::ArrayLength,
@@ -98,6 +105,9 @@ impl Answer {
         Answer::BadBlock,
         Answer::ListRoom,
         Answer::MaskLength,
+        Answer::RowLength,
+        Answer::ChipNotThere,
+        Answer::BusArray,
     ];
 
     /// The number in the C calls.
@@ -153,6 +163,9 @@ impl Answer {
             Answer::BadBlock => "a block of the image is bad: its number or its sums are wrong",
             Answer::ListRoom => "the list has fewer places than the image has blocks",
             Answer::MaskLength => "the mask is not 256 bytes long",
+            Answer::RowLength => "the row has no chip, or more than 8",
+            Answer::ChipNotThere => "there is no such chip in the row",
+            Answer::BusArray => "the array's length is not the sum of the row's parts",
         }
     }
 }

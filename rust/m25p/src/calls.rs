@@ -1,8 +1,8 @@
 //! The C calls on slices of any length: the same arguments in the same order, and the same 64 bits.
 //!
-//! [`Chip`](crate::Chip) is what most programs want, and [`image`](crate::image) for images of a chip's contents. These
-//! are for records, arrays and images that are kept elsewhere, and for those that may be wrong: whatever is passed is
-//! checked and answered.
+//! [`Chip`](crate::Chip) is what most programs want, [`Bus`](crate::Bus) for several chips on one bus, and
+//! [`image`](crate::image) for images of a chip's contents. These are for records, arrays and images that are kept
+//! elsewhere, and for those that may be wrong: whatever is passed is checked and answered.
 
 use crate::library;
 use crate::{Durations, Reply};
@@ -86,4 +86,24 @@ pub fn image_read(part: u32, image: &[u8], array: &mut [u8]) -> Reply {
 /// however few are bad. Answers 31, 32, 34.
 pub fn image_salvage(part: u32, image: &mut [u8], list: &mut [u8]) -> Reply {
     Reply::new(library::image_salvage(part, image, list))
+}
+
+/// One transaction on a bus of up to eight chips, as by [`transact`] on the chosen one alone. The row is their packed
+/// records one after another, the array their bytes in the same order, and `chip` counts from 0. Only the chosen
+/// record and the response can change. Answers 8, 51, 52, 6, 53, 3, 4, 5, then those of the chip.
+pub fn bus_transact(
+    row: &mut [u8],
+    array: &mut [u8],
+    chip: u32,
+    sent: &[u8],
+    pulses: u32,
+    w: u32,
+    response: &mut [u8],
+) -> Reply {
+    Reply::new(library::bus_transact(row, array, chip, sent, pulses, w, response))
+}
+
+/// Lets ticks pass for every chip of a row, each as by [`wait`] on its own record and bytes. Answers 8, 51, 6, 53.
+pub fn bus_wait(row: &mut [u8], array: &mut [u8], ticks: u32) -> Reply {
+    Reply::new(library::bus_wait(row, array, ticks))
 }

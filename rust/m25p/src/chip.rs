@@ -53,7 +53,7 @@ pub struct Batch {
 }
 
 impl Response {
-    fn new(reply: Reply, line: Vec<u8>) -> Response {
+    pub(crate) fn new(reply: Reply, line: Vec<u8>) -> Response {
         let driven = reply.first()..reply.first() + reply.count();
         Response { answer: reply.answer(), line, missing: reply.missing(), driven }
     }
@@ -91,26 +91,14 @@ impl Chip {
     /// A run of raw pins: one output byte for each sample, see [`pins`](crate::pins). Refused with
     /// [`Answer::SampleBits`] or [`Answer::PinsLength`].
     pub fn pins(&mut self, samples: &[u8]) -> Result<Run, Answer> {
-        let mut output = vec![0; samples.len()];
-        let reply = calls::pins(&mut self.record, &mut self.array, samples, &mut output);
-        reply.answer().executed().map(|()| Run { output, missing: reply.missing() })
+        pins(&mut self.record, &mut self.array, samples)
     }
 
     /// The items of a batch in order, see [`batch`](crate::batch): record and array become what they become by
     /// [`transact`](Chip::transact) and [`wait`](Chip::wait), item by item. Refused with [`Answer::BadItem`],
     /// wherever the bad item is; nothing is carried out then.
     pub fn batch(&mut self, items: &[u8]) -> Result<Batch, Answer> {
-        let mut responses = vec![0; items.len()];
-        let mut answers = vec![0; items.len() / HEAD_BYTES];
-        let mut missing = [0; 8];
-        let (record, array) = (&mut self.record, &mut self.array);
-        calls::batch(record, array, items, &mut responses, &mut answers, &mut missing)
-            .answer()
-            .executed()?;
-        let lengths = || batch::items(items).flatten().map(|item| item.response_bytes());
-        responses.truncate(lengths().sum());
-        answers.truncate(lengths().count());
-        Ok(Batch { responses, answers, missing: u64::from_le_bytes(missing) })
+        batch(&mut self.record, &mut self.array, items)
     }
 
     /// Lets ticks pass; a cycle with no more ticks left ends, and only then array or settings change. In its
@@ -167,7 +155,28 @@ impl Chip {
     }
 }
 
+/// A run of raw pins on a chip's record and array.
+pub(crate) fn pins(record: &mut [u8], array: &mut [u8], samples: &[u8]) -> Result<Run, Answer> {
+    let mut output = vec![0; samples.len()];
+    let reply = calls::pins(record, array, samples, &mut output);
+    reply.answer().executed().map(|()| Run { output, missing: reply.missing() })
+}
+
+/// The items of a batch on a chip's record and array.
+pub(crate) fn batch(record: &mut [u8], array: &mut [u8], items: &[u8]) -> Result<Batch, Answer> {
+    let mut responses = vec![0; items.len()];
+    let mut answers = vec![0; items.len() / HEAD_BYTES];
+    let mut missing = [0; 8];
+    calls::batch(record, array, items, &mut responses, &mut answers, &mut missing)
+        .answer()
+        .executed()?;
+    let lengths = || batch::items(items).flatten().map(|item| item.response_bytes());
+    responses.truncate(lengths().sum());
+    answers.truncate(lengths().count());
+    Ok(Batch { responses, answers, missing: u64::from_le_bytes(missing) })
+}
+
 /// A chip's own buffers are never refused.
-fn executed(reply: Reply) {
+pub(crate) fn executed(reply: Reply) {
     assert_eq!(reply.answer(), Answer::Executed, "a chip's record is sound, and its array whole");
 }

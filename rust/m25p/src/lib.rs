@@ -46,6 +46,9 @@
 //! A chip's contents can be kept on disk as an image, whose blocks have sums; where some of it is damaged, the rest can
 //! be saved (module [`image`]).
 //!
+//! Up to eight chips can share one bus (module [`bus`]): a transaction goes to the one that is named, and time passes for
+//! all of them.
+//!
 //! The functions in [`calls`] are the C calls themselves, on slices of any length.
 //!
 //! `libm25p.a` is for x86-64 and is linked there: the build takes it from `M25P_LIB_DIR`, or from
@@ -58,6 +61,7 @@
 mod answer;
 pub mod batch;
 mod buffer;
+pub mod bus;
 pub mod calls;
 mod chip;
 mod cycle;
@@ -80,6 +84,7 @@ mod kit;
 
 pub use answer::{Answer, Reply};
 pub use buffer::Buffer;
+pub use bus::Bus;
 pub use chip::{Batch, Chip, Response, Run};
 pub use cycle::Cycle;
 pub use durations::Durations;

@@ -24,6 +24,8 @@ const BATCH: u32 = 6;
 const IMAGE_WRITE: u32 = 7;
 const IMAGE_READ: u32 = 8;
 const IMAGE_SALVAGE: u32 = 9;
+const BUS_TRANSACT: u32 = 10;
+const BUS_WAIT: u32 = 11;
 
 pub fn deliver(record: &mut [u8], part: u32, array: &mut [u8], durations: [u32; 4]) -> u64 {
     let [program, sector_erase, bulk_erase, write_status] = durations;
@@ -86,6 +88,24 @@ pub fn image_read(part: u32, image: &[u8], array: &mut [u8]) -> u64 {
 
 pub fn image_salvage(part: u32, image: &mut [u8], list: &mut [u8]) -> u64 {
     call(IMAGE_SALVAGE, &[part], &mut [Lent::Changed(image), Lent::Changed(list)])
+}
+
+pub fn bus_transact(
+    row: &mut [u8],
+    array: &mut [u8],
+    chip: u32,
+    sent: &[u8],
+    pulses: u32,
+    w: u32,
+    response: &mut [u8],
+) -> u64 {
+    let (row, array) = (Lent::Changed(row), Lent::Changed(array));
+    let (sent, response) = (Lent::Kept(sent), Lent::Changed(response));
+    call(BUS_TRANSACT, &[chip, pulses, w], &mut [row, array, sent, response])
+}
+
+pub fn bus_wait(row: &mut [u8], array: &mut [u8], ticks: u32) -> u64 {
+    call(BUS_WAIT, &[ticks], &mut [Lent::Changed(row), Lent::Changed(array)])
 }
 
 /// The one form of a call: which it is, its numbers, and its slices, each in the order of the C call's

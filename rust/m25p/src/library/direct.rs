@@ -86,6 +86,26 @@ extern "C" {
         list: *mut u8,
         list_len: usize,
     ) -> u64;
+    fn m25p_bus_transact(
+        row: *mut u8,
+        row_len: usize,
+        array: *mut u8,
+        array_len: usize,
+        chip: u32,
+        sent: *const u8,
+        sent_len: usize,
+        pulses: u32,
+        w: u32,
+        response: *mut u8,
+        response_len: usize,
+    ) -> u64;
+    fn m25p_bus_wait(
+        row: *mut u8,
+        row_len: usize,
+        array: *mut u8,
+        array_len: usize,
+        ticks: u32,
+    ) -> u64;
 }
 
 /// Bytes that a call is lent without a copy: any bytes are.
@@ -210,4 +230,34 @@ pub fn image_salvage(part: u32, image: &mut [u8], list: &mut [u8]) -> u64 {
     unsafe {
         m25p_image_salvage(part, image.as_mut_ptr(), image.len(), list.as_mut_ptr(), list.len())
     }
+}
+
+pub fn bus_transact(
+    row: &mut [u8],
+    array: &mut [u8],
+    chip: u32,
+    sent: &[u8],
+    pulses: u32,
+    w: u32,
+    response: &mut [u8],
+) -> u64 {
+    unsafe {
+        m25p_bus_transact(
+            row.as_mut_ptr(),
+            row.len(),
+            array.as_mut_ptr(),
+            array.len(),
+            chip,
+            sent.as_ptr(),
+            sent.len(),
+            pulses,
+            w,
+            response.as_mut_ptr(),
+            response.len(),
+        )
+    }
+}
+
+pub fn bus_wait(row: &mut [u8], array: &mut [u8], ticks: u32) -> u64 {
+    unsafe { m25p_bus_wait(row.as_mut_ptr(), row.len(), array.as_mut_ptr(), array.len(), ticks) }
 }
