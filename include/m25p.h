@@ -2,7 +2,8 @@
  *
  * A chip is two buffers that you own: a packed record of 304 bytes (the settings, the mode and a running
  * cycle) and the memory array (its contents). Each call on a chip is lent both, changes them in place and
- * returns one 64-bit answer. The three m25p_image calls are lent no record: they carry an array to an image,
+ * returns one 64-bit answer. The two m25p_bus calls are lent up to eight chips that share a bus: a row of
+ * records and one array. The three m25p_image calls are lent no record: they carry an array to an image,
  * which is for a disk, and back, and save what is left of a damaged image. Nothing is allocated, and between
  * calls nothing is remembered but in your buffers.
  *
@@ -62,8 +63,8 @@
  *
  *   An executed PP, SE, BE or WRSR, on part 6 also PW, PE or SSE, starts a cycle. Until its end the record
  *   remembers it, and array, BP and SRWD stay as they are. The cycle acts on the array that is lent at its
- *   end, which is one of three: its last tick (m25p_wait, or a wait in m25p_batch), m25p_power_up, which
- *   completes it, and m25p_loss, which cuts it.
+ *   end, which is one of three: its last tick (m25p_wait, m25p_bus_wait, or a wait in m25p_batch),
+ *   m25p_power_up, which completes it, and m25p_loss, which cuts it.
  *
  * The answer, 64 bits
  *
@@ -79,9 +80,9 @@
  *
  *   Of a call on a chip: where nothing was driven, and on every number but 0, first and count are 0. The bits
  *   missing are 0 on every number but 0, for every transaction but a page program (02), and in every answer
- *   of m25p_deliver, m25p_wait, m25p_power_up and m25p_loss. m25p_pins gives the sum over its transactions;
- *   m25p_batch gives it in a buffer of its own, and its answer is the number alone. They are counted as the
- *   program starts, on the array that is lent to that call.
+ *   of m25p_deliver, m25p_wait, m25p_bus_wait, m25p_power_up and m25p_loss. m25p_pins gives the sum over its
+ *   transactions; m25p_batch gives it in a buffer of its own, and its answer is the number alone. They are
+ *   counted as the program starts, on the array that is lent to that call.
  *
  *   The m25p_image calls drive and program nothing. Bits 16-47 are the first bad block where m25p_image_read
  *   answers 33, and how many blocks were changed where m25p_image_salvage answers 0; all else is 0 but the
@@ -100,7 +101,7 @@
  *   - Buffers lent to one call must not overlap.
  *   - No buffer may be longer than PTRDIFF_MAX bytes.
  *   - One chip is used by one thread at a time, and so is an image or a list that is written. Different
- *     ones are independent.
+ *     ones are independent. The chips of a row are one in this: a call on a bus looks at all its records.
  */
 #ifndef M25P_H
 #define M25P_H
@@ -118,6 +119,7 @@ extern "C" {
 #define M25P_MOST_TICKS 1000000u     /* the longest duration */
 #define M25P_ITEM_WAIT 16u           /* the flag byte of a wait in a batch */
 #define M25P_MISSING_BYTES 8u        /* the sum of the bits missing of a batch */
+#define M25P_MOST_CHIPS 8u           /* the most chips on a bus */
 
 /* One sample of raw pins: each bit is the level of its pin, bits 5 to 7 are 0. */
 #define M25P_PIN_SELECT 0x01u        /* Chip Select: low while a transaction runs */
@@ -165,20 +167,21 @@ enum m25p_part {
 #define M25P_WRITE_LOCK 0x01u        /* nothing is written, programmed or erased in the sector */
 #define M25P_LOCK_DOWN 0x02u         /* the register is frozen until power-up or a power loss */
 
-/* Answer numbers. On 1 to 10, 21 to 23, 31 to 34 and 41 the call was refused and has written nothing
- * anywhere. On 11 to 19 the chip ignored the transaction: record and array stay, the latch included, and the
- * response is all FF. "All" are the calls that take such an argument. */
+/* Answer numbers. On 1 to 10, 21 to 23, 31 to 34, 41 and 51 to 53 the call was refused and has written
+ * nothing anywhere. On 11 to 19 the chip ignored the transaction: record and array stay, the latch included,
+ * and the response is all FF. "All" are the calls that take such an argument; what is said of transact goes
+ * for bus_transact, too. */
 enum m25p_number {
     M25P_EXECUTED = 0,          /* done */
 
     M25P_UNKNOWN_PART = 1,      /* deliver: part above 6 */
-    M25P_ARRAY_LENGTH = 2,      /* all: array_len is not the part's size */
+    M25P_ARRAY_LENGTH = 2,      /* all but the bus calls: array_len is not the part's size */
     M25P_SENT_LENGTH = 3,       /* transact: sent_len above 65,536 */
     M25P_PULSES = 4,            /* transact: further pulses above 7 */
     M25P_RESPONSE_LENGTH = 5,   /* transact: response_len below sent_len */
-    M25P_RECORD_UNSOUND = 6,    /* all but deliver: not the packing of a sound record */
+    M25P_RECORD_UNSOUND = 6,    /* all but deliver: not the packing of a sound record, any of a row */
     M25P_DURATION = 7,          /* deliver: a duration outside 1 to 1,000,000 */
-    M25P_RECORD_LENGTH = 8,     /* all: record_len is not 304 */
+    M25P_RECORD_LENGTH = 8,     /* all: record_len is not 304, or row_len is not a multiple of 304 */
     M25P_BAD_ITEM = 9,          /* batch: a cut item, a flag byte above 16, or a wait not of length 4 */
     M25P_BATCH_ROOM = 10,       /* batch: responses, answers or missing too short for all items */
 
@@ -201,7 +204,11 @@ enum m25p_number {
     M25P_BAD_BLOCK = 33,        /* image_read: a block's number or sums are wrong */
     M25P_LIST_ROOM = 34,        /* image_salvage: fewer list places than blocks */
 
-    M25P_MASK_LENGTH = 41       /* loss: mask_len is not 256 */
+    M25P_MASK_LENGTH = 41,      /* loss: mask_len is not 256 */
+
+    M25P_ROW_LENGTH = 51,       /* bus_transact, bus_wait: a row of no record, or of more than 8 */
+    M25P_CHIP_NOT_THERE = 52,   /* bus_transact: the row has no such chip */
+    M25P_BUS_ARRAY = 53         /* bus_transact, bus_wait: array_len is not the sum of the parts' sizes */
 };
 
 /* Each call gives the first number that applies, in this order:
@@ -211,6 +218,8 @@ enum m25p_number {
  *   m25p_loss                 8, 6, 2, 41
  *   m25p_pins                 8, 6, 2, 21, 22, 23
  *   m25p_batch                8, 6, 2, 9, 10
+ *   m25p_bus_transact         8, 51, 52, 6, 53, 3, 4, 5, then 11 and so on as m25p_transact
+ *   m25p_bus_wait             8, 51, 6, 53
  *   m25p_image_write          31, 32, 2
  *   m25p_image_read           31, 32, 2, 33
  *   m25p_image_salvage        31, 32, 34
@@ -405,6 +414,45 @@ uint64_t m25p_batch(uint8_t *record, size_t record_len,
                     uint8_t *responses, size_t responses_len,
                     uint8_t *answers, size_t answers_len,
                     uint8_t *missing, size_t missing_len);
+
+/* One transaction on a bus that 1 to 8 chips share (M25P_MOST_CHIPS). chip is the selected one, from 0 on.
+ *
+ *   row          the packed records of the chips, one after another: that of chip k is the 304 bytes from
+ *                row + 304 * k on, and row_len is 304 times the number of chips
+ *   array        the bytes of the chips, one after another in the order of the row: those of a chip begin
+ *                where those of the chips before it end, and array_len is the sum of the parts' sizes
+ *
+ * Any parts may stand in a row, in any order, and one part more than once. The answer, the response and the
+ * selected chip's record become what they become by m25p_transact on that chip's record and bytes alone: the
+ * answer with first, count and bits missing, and bytes of the response from sent_len on are left as they are.
+ * All other records and the whole array stay. Two runs, neither refused with 8, 51, 52, 6 or 53, that agree
+ * on one chip's record and bytes and on what is sent to it and waited give it the same answers, whatever
+ * stands beside it and is sent there.
+ *
+ * 8 goes by row_len, which must be a multiple of 304. 51: a row of no record, or of more than 8, be they
+ * sound or not. 52: chip is not below the number of records. 6: any record of the row is not sound, the
+ * selected one or another. 53, in the place of 2: array_len is shorter or longer than the sum. A refused call
+ * changes nothing: row, array and response stay as they are.
+ *
+ * Delivery, power-up, power loss, raw pins and batches have no call for a bus, as those on one chip do it:
+ * on its record, and on its bytes of the array. Of chip k, where begin is the sum of the sizes of chips 0 to
+ * k - 1 and size is its own:
+ *
+ *   m25p_power_up(row + M25P_RECORD_BYTES * k, M25P_RECORD_BYTES, array + begin, size);
+ *
+ * A row is made by one m25p_deliver for each chip. Where the whole board loses its power, one call for each
+ * chip tells so, with a mask of its own. The waits in a batch are waited by that chip alone. */
+uint64_t m25p_bus_transact(uint8_t *row, size_t row_len,
+                           uint8_t *array, size_t array_len, uint32_t chip,
+                           const uint8_t *sent, size_t sent_len,
+                           uint32_t pulses, uint32_t w,
+                           uint8_t *response, size_t response_len);
+
+/* Lets ticks pass for every chip of a row, each as by m25p_wait on its own record and bytes: cycles of
+ * several chips may end in one call. Row and array are as in m25p_bus_transact. Refused with 8, 51, 6 or 53,
+ * no tick passes for any of them. */
+uint64_t m25p_bus_wait(uint8_t *row, size_t row_len,
+                       uint8_t *array, size_t array_len, uint32_t ticks);
 
 /* Writes the image of an array, to be kept on a disk. An image is blocks of 512 bytes, as many as hold the
  * array:
