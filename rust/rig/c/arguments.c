@@ -76,6 +76,16 @@ static uint64_t image_salvage(uint8_t *const p[], const uint64_t n[])
     return m25p_image_salvage(n[0], p[0], n[1], p[1], n[2]);
 }
 
+static uint64_t bus_transact(uint8_t *const p[], const uint64_t n[])
+{
+    return m25p_bus_transact(p[0], n[0], p[1], n[1], n[2], p[2], n[3], n[4], n[5], p[3], n[6]);
+}
+
+static uint64_t bus_wait(uint8_t *const p[], const uint64_t n[])
+{
+    return m25p_bus_wait(p[0], n[0], p[1], n[1], n[2]);
+}
+
 static void set(struct call *call, int numbers, const uint64_t *number)
 {
     memcpy(call->number, number, (size_t)numbers * sizeof *number);
@@ -97,22 +107,22 @@ static void record(uint8_t *at, int busy)
     memcpy(at, bytes, sizeof bytes);
 }
 
-/* Whether every byte of the second page is this one, and those around it are as they were. */
-static int second_page(uint8_t byte)
+/* Whether every byte of an array's second page is this one, and those around it are as they were. */
+static int second_page(const uint8_t *array, uint8_t byte)
 {
     for (int i = 0; i < 256; i++)
-        if (room[1][256 + i] != byte)
+        if (array[256 + i] != byte)
             return 0;
-    return room[1][255] == 0x5A && room[1][512] == 0x5A;
+    return array[255] == 0x5A && array[512] == 0x5A;
 }
 
 /* Whether the record is in standby with the latch reset, and remembers no cycle. */
-static int rested(void)
+static int rested(const uint8_t *record)
 {
     for (int i = 28; i < 304; i++)
-        if (room[0][i] != 0)
+        if (record[i] != 0)
             return 0;
-    return room[0][3] == 0 && room[0][4] == 0 && room[0][8] == 0;
+    return record[3] == 0 && record[4] == 0 && record[8] == 0;
 }
 
 static void prepare_deliver(struct call *call)
@@ -139,12 +149,18 @@ static void prepare_transact(struct call *call)
     memcpy(room[2], (const uint8_t[]){0x01, 0x04}, 2);
 }
 
-/* The record is busy for a status write with BP 1 and SRWD 0 to come, and the response two bytes FF. */
+/* Whether a record is busy for a status write with BP 1 and SRWD 0 to come. */
+static int in_status_write(const uint8_t *record)
+{
+    return record[1] == 0 && record[2] == 1 && record[4] == 1 && record[8] == 14 && record[28] == 4
+        && record[29] == 1 && record[30] == 0;
+}
+
+/* The record is, and the response two bytes FF. */
 static int right_transact(const struct call *call)
 {
-    return call->answer == 0 && room[0][1] == 0 && room[0][2] == 1 && room[0][4] == 1 && room[0][8] == 14
-        && room[0][28] == 4 && room[0][29] == 1 && room[0][30] == 0
-        && room[3][0] == 0xFF && room[3][1] == 0xFF && room[3][2] == 0x5C && room[1][0] == 0x5A;
+    return call->answer == 0 && in_status_write(room[0]) && room[3][0] == 0xFF && room[3][1] == 0xFF
+        && room[3][2] == 0x5C && room[1][0] == 0x5A;
 }
 
 static void prepare_wait(struct call *call)
@@ -155,7 +171,7 @@ static void prepare_wait(struct call *call)
 
 static int right_wait(const struct call *call)
 {
-    return call->answer == 0 && rested() && second_page(0x5A & 0xF0);
+    return call->answer == 0 && rested(room[0]) && second_page(room[1], 0x5A & 0xF0);
 }
 
 static void prepare_power_up(struct call *call)
@@ -166,7 +182,7 @@ static void prepare_power_up(struct call *call)
 
 static int right_power_up(const struct call *call)
 {
-    return call->answer == 0 && rested() && second_page(0x5A & 0xF0);
+    return call->answer == 0 && rested(room[0]) && second_page(room[1], 0x5A & 0xF0);
 }
 
 /* The mask is all 02. */
@@ -179,7 +195,7 @@ static void prepare_loss(struct call *call)
 
 static int right_loss(const struct call *call)
 {
-    return call->answer == 0 && rested() && second_page(0x5A & (0xF0 | 0x02)) && room[2][0] == 0x02;
+    return call->answer == 0 && rested(room[0]) && second_page(room[1], 0x5A & (0xF0 | 0x02)) && room[2][0] == 0x02;
 }
 
 /* A transaction of five bytes from this sample on, then Select high: 40 clock pulses of two samples, with
@@ -246,7 +262,7 @@ static int right_batch(const struct call *call)
     for (int i = 0; i < 26; i++)
         if (room[3][i] != (i == 25 ? 0x5A : i > 5 && i < 21 && i % 2 == 0 ? 0x83 : 0xFF))
             return 0;
-    return call->answer == 0 && rested() && room[1][0] == 0x5A && room[3][26] == 0x5C
+    return call->answer == 0 && rested(room[0]) && room[1][0] == 0x5A && room[3][26] == 0x5C
         && memcmp(room[4], answers, 11) == 0 && room[4][11] == 0x5D
         && memcmp(room[5], missing, 8) == 0 && room[5][8] == 0x5E;
 }
@@ -294,6 +310,38 @@ static int right_image_salvage(const struct call *call)
     put_image(room[2], plain, BYTES);
     return call->answer == (uint64_t)1 << 16 && memcmp(room[0], room[2], IMAGE) == 0
         && memcmp(room[1], list, sizeof list) == 0;
+}
+
+/* The same status write for the last of four chips; the others are bench parts. */
+static void prepare_bus_transact(struct call *call)
+{
+    prepare_transact(call);
+    set(call, 7, (const uint64_t[]){4 * 304, 3 * M25P_BENCH_BYTES + BYTES, 3, 2, 0, 1, 5});
+    for (int k = 0; k < 4; k++) {
+        record(room[0] + 304 * k, 0);
+        room[0][304 * k] = k == 3 ? M25P_M25P10A : M25P_BENCH;
+    }
+}
+
+static int right_bus_transact(const struct call *call)
+{
+    return call->answer == 0 && in_status_write(room[0] + 3 * 304) && room[0][4] == 0 && room[0][304 + 4] == 0
+        && room[3][0] == 0xFF && room[3][1] == 0xFF && room[3][2] == 0x5C && room[1][0] == 0x5A;
+}
+
+/* The second of two chips has 20 ticks left. */
+static void prepare_bus_wait(struct call *call)
+{
+    set(call, 3, (const uint64_t[]){2 * 304, M25P_BENCH_BYTES + BYTES, 20});
+    record(room[0], 0);
+    room[0][0] = M25P_BENCH;
+    record(room[0] + 304, 1);
+}
+
+static int right_bus_wait(const struct call *call)
+{
+    return call->answer == 0 && rested(room[0] + 304) && room[0][3] == 1
+        && second_page(room[1] + M25P_BENCH_BYTES, 0x5A & 0xF0);
 }
 
 static void run(struct call *call, int i, int j, int of_pointers)
@@ -353,7 +401,7 @@ int main(void)
         CALL(deliver, 2, 7), CALL(transact, 4, 6), CALL(wait, 2, 3),
         CALL(power_up, 2, 2), CALL(loss, 3, 4), CALL(pins, 4, 4),
         CALL(batch, 6, 6), CALL(image_write, 2, 3), CALL(image_read, 2, 3),
-        CALL(image_salvage, 2, 3),
+        CALL(image_salvage, 2, 3), CALL(bus_transact, 4, 7), CALL(bus_wait, 2, 3),
     };
     int fine = 1;
     for (size_t i = 0; i < sizeof calls / sizeof *calls; i++)

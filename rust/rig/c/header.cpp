@@ -22,6 +22,27 @@ static bool images()
         && m25p_answer(salvaged) == M25P_EXECUTED && m25p_blocks(salvaged) == 1 && listed && refused;
 }
 
+// The calls for several chips on one bus: two of the bench part, and no third.
+static bool bus()
+{
+    static uint8_t row[2 * M25P_RECORD_BYTES], array[2 * M25P_BENCH_BYTES];
+    static_assert(sizeof row < M25P_MOST_CHIPS * M25P_RECORD_BYTES, "two chips are no more than eight");
+    uint8_t sent[] = {0x05, 0}, response[2] = {};
+    for (size_t k = 0; k < 2; k++)
+        m25p_deliver(row + M25P_RECORD_BYTES * k, M25P_RECORD_BYTES, M25P_BENCH, array + M25P_BENCH_BYTES * k,
+                     M25P_BENCH_BYTES, 3, 5, 9, 2);
+    auto status = [&](uint32_t chip, size_t row_len, size_t array_len) {
+        return m25p_bus_transact(row, row_len, array, array_len, chip, sent, 2, 0, 1, response, 2);
+    };
+    uint64_t answer = status(1, sizeof row, sizeof array);
+    bool driven = m25p_first(answer) == 1 && m25p_count(answer) == 1 && response[1] == 0;
+    bool refused = status(0, 0, sizeof array) == M25P_ROW_LENGTH
+        && status(2, sizeof row, sizeof array) == M25P_CHIP_NOT_THERE
+        && m25p_bus_wait(row, sizeof row, array, 1, 3) == M25P_BUS_ARRAY;
+    return m25p_answer(answer) == M25P_EXECUTED && driven && refused
+        && m25p_bus_wait(row, sizeof row, array, sizeof array, 3) == M25P_EXECUTED;
+}
+
 int main()
 {
     uint8_t record[M25P_RECORD_BYTES] = {}, array[M25P_BENCH_BYTES] = {}, mask[M25P_MASK_BYTES] = {};
@@ -31,5 +52,5 @@ int main()
                                 sizeof responses, answers, sizeof answers, missing, sizeof missing);
     bool refused = m25p_answer(answer) == M25P_RECORD_UNSOUND && answer == batch;
     bool alone = m25p_first(answer) == 0 && m25p_count(answer) == 0 && m25p_missing(answer) == 0;
-    return refused && alone && images() ? 0 : 1;
+    return refused && alone && images() && bus() ? 0 : 1;
 }

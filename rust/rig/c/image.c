@@ -5,7 +5,7 @@
  * number, first, blocks and bits missing of the answer; then whether every byte is as due. */
 #include "image_rooms.h"
 
-#include <unistd.h>
+#include "fences.h"
 
 /* The part's array to an image, and back: from marks, so that every byte is written. */
 static void to_and_fro(uint32_t part)
@@ -275,26 +275,6 @@ static void beyond_32_bits(void)
         show("list", made(SALVAGE, M25P_BENCH, LIST, huge, times * over));
         printf("%u %u %02X\n", huge[0], huge[4], huge[8]);
     }
-}
-
-/* So many bytes with no memory behind them, or none that may be touched. */
-static uint8_t *fenced(const uint8_t *from, size_t n)
-{
-    size_t page = (size_t)sysconf(_SC_PAGESIZE), pages = (n + page - 1) / page * page;
-    uint8_t *start = mmap(NULL, pages + page, PROT_READ | PROT_WRITE, MAP_PRIVATE | MAP_ANONYMOUS, -1, 0);
-    if (start == MAP_FAILED || mprotect(start + pages, page, PROT_NONE) != 0)
-        abort();
-    memcpy(start + pages - n, from, n);
-    return start + pages - n;
-}
-
-/* The same bytes: they can be read, and no more written. */
-static void close_room(uint8_t *bytes, size_t n)
-{
-    size_t page = (size_t)sysconf(_SC_PAGESIZE);
-    uint8_t *end = bytes + n;
-    if (mprotect(end - (n + page - 1) / page * page, (n + page - 1) / page * page, PROT_READ) != 0)
-        abort();
 }
 
 /* Slices at the end of the memory: the calls go no further. What is only read, and all that is lent to a refused call,

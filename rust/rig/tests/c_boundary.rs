@@ -1,5 +1,5 @@
 //! C and C++ programs over m25p.h and libm25p.a, built with warnings as errors, and what they print. Those of batches are
-//! in `c_batch.rs`, those of images in `c_image.rs`.
+//! in `c_batch.rs`, those of images in `c_image.rs`, those of a bus in `c_bus.rs`.
 
 #[path = "support/c.rs"]
 #[allow(dead_code)]
@@ -71,6 +71,8 @@ m25p_batch: right, 30 of 30 exchanges noticed
 m25p_image_write: right, 4 of 4 exchanges noticed
 m25p_image_read: right, 4 of 4 exchanges noticed
 m25p_image_salvage: right, 4 of 4 exchanges noticed
+m25p_bus_transact: right, 27 of 27 exchanges noticed
+m25p_bus_wait: right, 4 of 4 exchanges noticed
 ";
     prints("-std=c99", "rust/rig/c/arguments.c", expected);
 }
@@ -107,7 +109,7 @@ fn proved(call: &str) -> Vec<String> {
 }
 
 /// The calls, and how many arguments each has.
-const CALLS: [(&str, usize); 10] = [
+const CALLS: [(&str, usize); 12] = [
     ("m25p_deliver", 9),
     ("m25p_transact", 10),
     ("m25p_wait", 5),
@@ -118,6 +120,8 @@ const CALLS: [(&str, usize); 10] = [
     ("m25p_image_write", 5),
     ("m25p_image_read", 5),
     ("m25p_image_salvage", 5),
+    ("m25p_bus_transact", 11),
+    ("m25p_bus_wait", 5),
 ];
 
 /// The header, its page and the library name the same arguments in the same order.
