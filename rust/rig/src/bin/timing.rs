@@ -1,7 +1,9 @@
 //! Times long reads, bulk erases, cut ones too, raw pins and images through the C calls against plain Rust, side by side
-//! in one run on x86-64, where both run on the same processor; short transactions by themselves; and a day's batch
-//! against the same items in calls of their own.
+//! in one run on x86-64, where both run on the same processor; short transactions by themselves; a small chip on a bus
+//! with small and with large ones beside it; and a day's batch against the same items in calls of their own.
 
+#[path = "timing/bus.rs"]
+mod bus;
 #[path = "timing/day.rs"]
 mod day;
 #[path = "timing/images.rs"]
@@ -94,13 +96,20 @@ fn timed(mut work: impl FnMut()) -> Duration {
     start.elapsed()
 }
 
+/// The middle time of each, over rounds that take turns.
+fn middles<const N: usize>(mut round: impl FnMut() -> [Duration; N]) -> [Duration; N] {
+    round();
+    let rounds: Vec<_> = (0..ROUNDS).map(|_| round()).collect();
+    std::array::from_fn(|i| {
+        let mut times: Vec<Duration> = rounds.iter().map(|round| round[i]).collect();
+        times.sort();
+        times[ROUNDS / 2]
+    })
+}
+
 /// The middle time of both, over rounds that take turns.
 fn middle(mut round: impl FnMut() -> (Duration, Duration)) -> (Duration, Duration) {
-    round();
-    let (mut first, mut second): (Vec<_>, Vec<_>) = (0..ROUNDS).map(|_| round()).unzip();
-    first.sort();
-    second.sort();
-    (first[ROUNDS / 2], second[ROUNDS / 2])
+    middles(|| round().into()).into()
 }
 
 fn report(what: &str, times: usize, (calls, plain): (Duration, Duration)) {
@@ -150,10 +159,9 @@ fn time_erases(
 fn time_short(part: Part) {
     let mut both = Both::new(part);
     for (name, sent) in [("write enable", &[0x06][..]), ("status read", &[0x05, 0x00])] {
-        let round = || timed(|| (0..SHORT).for_each(|_| both.transact(black_box(sent))));
-        let mut times: Vec<Duration> = std::iter::repeat_with(round).take(ROUNDS).collect();
-        times.sort();
-        let each = times[ROUNDS / 2].as_secs_f64() * 1e6 / SHORT as f64;
+        let round = || [timed(|| (0..SHORT).for_each(|_| both.transact(black_box(sent))))];
+        let [time] = middles(round);
+        let each = time.as_secs_f64() * 1e6 / SHORT as f64;
         println!("{:<32} {each:>10.3} us", format!("{part} {name}"));
     }
 }
@@ -229,6 +237,7 @@ fn main() -> ExitCode {
     time_pins("mode 3", SpiMode::Three);
     images::time_images(Part::M25p32);
     images::time_images(Part::M25p128);
+    bus::time_bus();
     day::time_day(Part::M25p40);
     ExitCode::SUCCESS
 }
