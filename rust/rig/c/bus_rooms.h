@@ -76,24 +76,28 @@ static void prepare(void)
     sends(enable, 1, 3);
 }
 
+/* Where a slice begins of which one is elsewhere. */
+static uint8_t *start_of(int slice, int other, uint8_t *start)
+{
+    return slice == other ? start : at(slice);
+}
+
 /* The calls, with one slice elsewhere and of another length; none of them for SLICES. */
 static uint64_t sent_with(uint32_t chip, uint32_t pulses, int other, uint8_t *start, size_t n)
 {
-    uint8_t *p[SLICES];
-    for (int i = 0; i < SLICES; i++)
-        p[i] = i == other ? start : at(i);
     if (other < SLICES)
         length[other] = n;
-    return m25p_bus_transact(p[ROW], length[ROW], p[ARRAY], length[ARRAY], chip, p[SENT], length[SENT], pulses, 1,
-                             p[RESPONSE], length[RESPONSE]);
+    return m25p_bus_transact(start_of(ROW, other, start), length[ROW], start_of(ARRAY, other, start), length[ARRAY],
+                             chip, start_of(SENT, other, start), length[SENT], pulses, 1,
+                             start_of(RESPONSE, other, start), length[RESPONSE]);
 }
 
 static uint64_t waited_with(uint32_t ticks, int other, uint8_t *start, size_t n)
 {
-    uint8_t *row = other == ROW ? start : at(ROW), *array = other == ARRAY ? start : at(ARRAY);
     if (other < SLICES)
         length[other] = n;
-    return m25p_bus_wait(row, length[ROW], array, length[ARRAY], ticks);
+    return m25p_bus_wait(start_of(ROW, other, start), length[ROW], start_of(ARRAY, other, start), length[ARRAY],
+                         ticks);
 }
 
 /* Prints whether every byte of the rooms is as due. */
