@@ -54,7 +54,7 @@ impl Draws {
             6 => behind(0x02, &[self.below(256) as u8; 3]),
             7 => behind(0xD8, &[]),
             8 => behind(0x0A, &[0xA5, 0x5A]),
-            9 => vec![0x01, 0x80 | 4 * self.below(2) as u8],
+            9 => vec![0x01, 0x80 + 4 * self.below(2) as u8],
             10 => vec![[0xB9, 0xAB, 0xC7, 0x77][self.below(4)]],
             _ => vec![],
         }
@@ -86,15 +86,25 @@ fn as_if_alone() {
     assert!(seen[0] > 500 && [11, 12, 13, 14, 15, 16, 17, 18].iter().all(|n| seen[*n] > 5));
 }
 
+/// The samples of one transaction, two for each bit.
+fn clocked(sent: &[u8]) -> Vec<u8> {
+    let low = pins::W | pins::HOLD;
+    let bits = sent.iter().flat_map(|byte| (0..8).rev().map(move |bit| byte >> bit & 1));
+    let levels = bits.map(|bit| if bit == 1 { low | pins::DATA } else { low });
+    let clocked = levels.flat_map(|level| [level, level | pins::CLOCK]);
+    clocked.chain([low, pins::REST]).collect()
+}
+
 /// Power, raw pins and batches of one chip, in the middle of the row.
 #[test]
 fn one_chip_of_the_row() {
     let (mut bus, mut chips) = (delivered(&ROW), alone(&ROW));
-    let status = [0, 1, 0, 1].map(|level| pins::W | pins::HOLD | level * pins::CLOCK);
+    let status = clocked(&[0x05, 0]);
     let items = [1, 0, 1, 0x06, 5, 0, 1, 0x02, 0, 0, 0, 0x5A, 4, 0, 16, 9, 0, 0, 0];
     for (i, chip) in chips.iter_mut().enumerate() {
         assert_eq!(bus.batch(i, &items), chip.batch(&items));
-        assert_eq!(bus.pins(i, &status), chip.pins(&status));
+        let run = bus.pins(i, &status).unwrap();
+        assert!(run.output.contains(&0) && chip.pins(&status) == Ok(run), "chip {i}");
         for sent in [&[0x06][..], &[0x02, 0, 0, 0, 0x18]] {
             assert_eq!(bus.transact(i, sent, 0, true), chip.transact(sent, 0, true));
         }
