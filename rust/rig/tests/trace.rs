@@ -27,7 +27,7 @@ fn traced(name: &str, part: Part, old: &[u8], new: &[u8]) -> Option<String> {
     let directory = scratch(&format!("flashrom_trace_{name}"));
     let image = directory.join("chip.bin");
     std::fs::write(&image, old).unwrap();
-    let options = Options { image: Some(image.clone()), ..Options::of(part) };
+    let options = Options { images: vec![image.clone()], ..Options::of(part) };
     let mut server = Server::start(&options).unwrap();
     let trace = Told::default();
     server.trace(Box::new(trace.clone()));
@@ -124,7 +124,7 @@ fn trace_of_rewrites_equals_model() {
     let (part, mut rng, trace) = (Part::M25p40, Rng::new(14), Told::default());
     let old = rng.bytes(part.bytes());
     let mut board = Board::new(&Options::of(part));
-    board.fill(&old);
+    board.fill(0, &old);
     board.trace(Box::new(trace.clone()));
     for _ in 0..300 {
         for sent in [vec![0x06], random_program(&mut rng)] {
@@ -155,7 +155,7 @@ fn trace_of_power_losses_equals_model() {
     for (seed, cycle) in (0..8).flat_map(|seed| (1..=4).map(move |cycle| (seed, cycle))) {
         let (trace, told) = (Told::default(), Told::default());
         let mut board = Board::new(&Options::of(part));
-        board.fill(&old);
+        board.fill(0, &old);
         board.trace(Box::new(trace.clone()));
         board.cut_after(cycle, seed, Box::new(told.clone()));
         for sent in &cycles[..cycle as usize] {

@@ -1,16 +1,20 @@
-//! The serprog protocol over the chip: what flashrom sends, and the answer to each command.
+//! The serprog protocol over the selected chip of a bus: what flashrom sends, and the answer to each command.
 //!
 //! An SPI operation is one transaction: the sent bytes, then as many dummy bytes as are to be read.
 
 mod board;
 mod cut;
 mod image;
+mod images;
 mod options;
+mod parts;
 mod server;
 
 pub use board::Board;
 pub use image::Image;
-pub use options::{Options, PARTS, USAGE};
+pub use images::Images;
+pub use options::{Options, USAGE};
+pub use parts::PARTS;
 pub use server::Server;
 
 use std::io::{self, BufReader, Read, Write};

@@ -18,7 +18,7 @@ fn drawn(seed: u32) -> (Vec<u8>, bool) {
 /// A board of the part, all 5A, whose power is lost in this cycle; what it tells.
 fn board(options: &Options, cycle: u32, seed: u32) -> (Board, Told) {
     let (mut board, told) = (Board::new(options), Told::default());
-    board.fill(&vec![0x5A; options.part.bytes()]);
+    board.fill(0, &vec![0x5A; options.parts[0].bytes()]);
     board.cut_after(cycle, seed, Box::new(told.clone()));
     (board, told)
 }

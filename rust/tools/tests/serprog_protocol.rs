@@ -6,6 +6,7 @@ mod told;
 
 use std::ffi::OsString;
 use std::io::{self, Cursor, ErrorKind, Read, Write};
+use std::path::Path;
 
 use m25p::Part;
 use told::Told;
@@ -260,11 +261,12 @@ fn options() {
                 --warn-missing";
     let options = parsed(line).unwrap();
     let durations = options.durations;
-    assert_eq!((options.part, options.port, options.tick_us), (Part::M25p128, 65_535, 10));
+    assert_eq!((&options.parts[..], options.select), (&[Part::M25p128][..], 0));
+    assert_eq!((options.port, options.tick_us), (65_535, 10));
     assert_eq!((options.bp, options.srwd, options.w_high, options.trace), (7, true, false, true));
     assert_eq!((durations.program, durations.sector_erase), (1, 2));
     assert_eq!((durations.bulk_erase, durations.write_status), (1_000_000, 3));
-    assert_eq!(options.image.unwrap().to_str(), Some("a/b"));
+    assert_eq!(options.images, [Path::new("a/b")]);
     assert!(options.warn_missing && !parsed("--part M25P40 --trace").unwrap().warn_missing);
     assert_eq!((options.cut_after, options.seed), (None, 1));
     let cut = |line: &str| parsed(&format!("--part M25P40 {line}")).map(|o| (o.cut_after, o.seed));
@@ -300,6 +302,7 @@ fn refused_options() {
         (&format!("{part} --warn-missing --warn-missing"), "--warn-missing is given twice."),
         (&format!("{part} --warn-missing 1"), "1 is not an option."),
         (&format!("{part} --image"), "--image has no value."),
+        (&format!("{part} --image a --image b"), "--image is given twice."),
         (&format!("{part} --cut-after 0"), "--cut-after is 1 to 1000000000, not 0."),
         (&format!("{part} --cut-after"), "--cut-after has no value."),
         (&format!("{part} --cut-after x"), "--cut-after is 1 to 1000000000, not x."),

@@ -1,4 +1,4 @@
-//! An M25P or M25PE chip for flashrom: speaks serprog on a loopback port until SIGINT or SIGTERM.
+//! M25P or M25PE chips on a bus for flashrom: speaks serprog on a loopback port until SIGINT or SIGTERM.
 
 use std::io::{stderr, stdout, Write};
 use std::process::ExitCode;

@@ -1,9 +1,10 @@
-//! The chip on its board: the level of W, and time, which passes by a tick for each transaction and by
-//! delays. Nothing sleeps. What happens can be traced, a missing erase be told, and power be lost in a cycle.
+//! The chips on their board, of which one is selected: the level of W, and time, which passes for all of them by a tick
+//! for each transaction and by delays. Nothing sleeps. What happens can be traced, a missing erase be told, and power be
+//! lost in a cycle.
 
 use std::io::Write;
 
-use m25p::{Chip, Response};
+use m25p::{Bus, Cycle, Response};
 
 use super::cut::{Cut, Loss};
 use super::options::Options;
@@ -12,7 +13,9 @@ const WREN: u8 = 0x06;
 const WRSR: u8 = 0x01;
 
 pub struct Board {
-    chip: Chip,
+    bus: Bus,
+    /// The chip that is talked to. The others are never busy and have no latch set: power has nothing to take there.
+    select: usize,
     w_high: bool,
     tick_us: u32,
     /// Microseconds that have passed but do not make a tick yet.
@@ -25,12 +28,13 @@ pub struct Board {
 }
 
 impl Board {
-    /// The part as delivered, with BP and SRWD as the options have them.
+    /// The parts as delivered, and the selected one with BP and SRWD as the options have them.
     pub fn new(options: &Options) -> Board {
-        let chip = Chip::deliver(options.part, options.durations).expect("the options are checked");
-        let (w_high, tick_us) = (options.w_high, options.tick_us);
+        let chips: Vec<_> = options.parts.iter().map(|part| (*part, options.durations)).collect();
+        let bus = Bus::deliver(&chips).expect("the options are checked");
+        let (select, w_high, tick_us) = (options.select, options.w_high, options.tick_us);
         let (trace, warning, cut) = (None, None, None);
-        let mut board = Board { chip, w_high, tick_us, rest: 0, trace, warning, cut };
+        let mut board = Board { bus, select, w_high, tick_us, rest: 0, trace, warning, cut };
         let status = u8::from(options.srwd) << 7 | options.bp << 2;
         if status != 0 {
             board.transact(&[WREN], true);
@@ -45,7 +49,7 @@ impl Board {
     pub fn operate(&mut self, mut sent: Vec<u8>, read: usize) -> Option<Vec<u8>> {
         let written = sent.len();
         sent.resize(written + read, 0);
-        let running = self.chip.cycle().is_some();
+        let running = self.cycle().is_some();
         let Response { answer, mut line, .. } = self.transact(&sent, self.w_high);
         if !running {
             self.cut();
@@ -83,24 +87,33 @@ impl Board {
 
     /// A cycle that is still running is completed, as by a power-up.
     pub fn finish(&mut self) {
-        if self.chip.cycle().is_some() {
-            self.chip.power_up();
+        if self.cycle().is_some() {
+            self.bus.power_up(self.select);
             self.note("p = 0 -");
         }
     }
 
-    /// The contents; a cycle that is still running has changed nothing of them.
+    /// The contents of the selected chip; a cycle that is still running has changed nothing of them.
     pub fn array(&self) -> &[u8] {
-        self.chip.array()
+        self.bus.array(self.select)
     }
 
-    /// The contents that the chip starts with, of the part's size.
-    pub fn fill(&mut self, contents: &[u8]) {
-        self.chip.array_mut().copy_from_slice(contents);
+    /// The contents of each chip.
+    pub fn arrays(&self) -> impl Iterator<Item = &[u8]> {
+        (0..self.bus.parts().len()).map(|chip| self.bus.array(chip))
+    }
+
+    /// The contents that a chip starts with, of its part's size.
+    pub fn fill(&mut self, chip: usize, contents: &[u8]) {
+        self.bus.array_mut(chip).copy_from_slice(contents);
+    }
+
+    fn cycle(&self) -> Option<Cycle> {
+        self.bus.cycle(self.select)
     }
 
     fn transact(&mut self, sent: &[u8], w_high: bool) -> Response {
-        let response = self.chip.transact(sent, 0, w_high);
+        let response = self.bus.transact(self.select, sent, 0, w_high);
         if self.trace.is_some() {
             let (answer, w) = (response.answer.number(), u8::from(w_high));
             let line = match sent {
@@ -123,7 +136,7 @@ impl Board {
     fn warn(&mut self, sent: &[u8], missing: u32) {
         let Some(mut into) = self.warning.take() else { return };
         let address = sent[1..4].iter().fold(0, |high, byte| high << 8 | usize::from(*byte));
-        let page = address % self.chip.part().bytes() / 256 * 256;
+        let page = address % self.array().len() / 256 * 256;
         let wants = match missing {
             1 => "1 bit 1 that is 0".to_string(),
             bits => format!("{bits} bits 1 that are 0"),
@@ -135,9 +148,10 @@ impl Board {
     /// Power is lost if a cycle has just started, and it is the one: before its first tick, so that one of a
     /// single tick is cut, too.
     fn cut(&mut self) {
-        let (Some(cut), Some(cycle)) = (&mut self.cut, self.chip.cycle()) else { return };
+        let cycle = self.cycle();
+        let (Some(cut), Some(cycle)) = (&mut self.cut, cycle) else { return };
         if let Some(Loss { mask, yes }) = cut.started(cycle) {
-            self.chip.loss(&mask, yes);
+            self.bus.loss(self.select, &mask, yes);
             self.note(&format!("loss {} {} = 0 -", u8::from(yes), hex(&mask)));
         }
     }
@@ -145,7 +159,7 @@ impl Board {
     /// No cycle is longer than the greatest wait of one call.
     fn wait(&mut self, ticks: u64) {
         let ticks = u32::try_from(ticks).unwrap_or(u32::MAX);
-        self.chip.wait(ticks);
+        self.bus.wait(ticks);
         if self.trace.is_some() {
             self.note(&format!("w {ticks} = 0 -"));
         }

@@ -3,32 +3,27 @@
 use std::ffi::{OsStr, OsString};
 use std::path::{Display, Path, PathBuf};
 
+use m25p::bus::MOST_CHIPS;
 use m25p::{Durations, Part};
 
-/// The parts that flashrom knows, by its names. Its M25P10 is found by the signature alone, as the older
-/// M25P10-A is.
-pub const PARTS: [(&str, Part); 6] = [
-    ("M25P10-A", Part::M25p10a),
-    ("M25P40", Part::M25p40),
-    ("M25P32", Part::M25p32),
-    ("M25P128", Part::M25p128),
-    ("M25P10", Part::M25p10aOlder),
-    ("M25PE40", Part::M25pe40),
-];
+use super::parts::{name_of, names, row};
 
 pub const USAGE: &str = "\
-serprog --part NAME [option]...   an M25P or M25PE chip for flashrom, on a loopback port
+serprog --part NAME[,NAME]... [option]...   M25P or M25PE chips for flashrom, on a loopback port
 
   --part NAME        M25P10-A, M25P40, M25P32, M25P128, M25P10 or M25PE40, in capitals or small
-                     letters; M25P10 is the older M25P10-A, without Read Identification
+                     letters; M25P10 is the older M25P10-A, without Read Identification. Up to
+                     eight of them, parted by commas, are on one bus
+  --select N         the chip that flashrom talks to, counted from 0; 0
   --image FILE       the contents: a raw file of the part's size, or an image in blocks, which the
                      command image makes; its length tells which. It is read at start and written
                      back in the same form when a client lets the pins go, when it has hung up,
-                     and at the end (SIGINT or SIGTERM); one server has it at a time
+                     and at the end (SIGINT or SIGTERM); one server has it at a time. With several
+                     chips it is given once for each, in their order, or not at all
   --port N           0 to 65535; 0, the default, takes a free one
   --w 0|1            the level of the Write Protect pin W; 1
-  --bp N             block protection at start; 0
-  --srwd 0|1         status register write disable at start; 0
+  --bp N             block protection at start, of the selected chip; 0
+  --srwd 0|1         status register write disable at start, of the selected chip; 0
   --tick-us N        the length of a tick in microseconds; 1000
   --program N        ticks of a page program, a page write or a page erase; 2
   --sector-erase N   ticks of a sector erase or a subsector erase; 1000
@@ -46,8 +41,12 @@ serprog --part NAME [option]...   an M25P or M25PE chip for flashrom, on a loopb
 
 #[derive(Clone, Debug, PartialEq, Eq)]
 pub struct Options {
-    pub part: Part,
-    pub image: Option<PathBuf>,
+    /// The chips on the bus, one to eight.
+    pub parts: Vec<Part>,
+    /// The chip that clients talk to, counted from 0.
+    pub select: usize,
+    /// The contents of each chip, or none at all.
+    pub images: Vec<PathBuf>,
     pub port: u16,
     pub w_high: bool,
     pub bp: u8,
@@ -64,8 +63,9 @@ impl Options {
     /// The part with every other option at its default.
     pub fn of(part: Part) -> Options {
         Options {
-            part,
-            image: None,
+            parts: vec![part],
+            select: 0,
+            images: Vec::new(),
             port: 0,
             w_high: true,
             bp: 0,
@@ -83,25 +83,25 @@ impl Options {
     pub fn parse(words: impl IntoIterator<Item = OsString>) -> Result<Options, String> {
         let mut words = words.into_iter();
         let mut seen: Vec<OsString> = Vec::new();
-        let mut part = None;
+        let mut parts = None;
         let mut options = Options::of(Part::M25p10a);
         while let Some(word) = words.next() {
             let Some(name) = word.to_str().filter(|name| KNOWN.contains(name)) else {
                 return Err(format!("{} is not an option.", shown(&word)));
             };
-            if seen.contains(&word) {
+            if name != "--image" && seen.contains(&word) {
                 return Err(format!("{name} is given twice."));
             }
             let mut value = || words.next().ok_or(format!("{name} has no value."));
             match name {
                 "--trace" => options.trace = true,
                 "--warn-missing" => options.warn_missing = true,
-                "--part" => part = Some(named(&value()?)?),
+                "--part" => parts = Some(row(&value()?)?),
                 _ => options.set(name, &value()?)?,
             }
             seen.push(word);
         }
-        options.part = part.ok_or(format!("--part is missing: {}.", names()))?;
+        options.parts = parts.ok_or(format!("--part is missing: {}.", names()))?;
         if options.cut_after.is_none() && seen.iter().any(|word| word == "--seed") {
             return Err("--seed is given without --cut-after.".to_string());
         }
@@ -112,7 +112,8 @@ impl Options {
         let number = |least, most| number(name, value, least, most);
         let ticks = || number(1, 1_000_000);
         match name {
-            "--image" => self.image = Some(PathBuf::from(value)),
+            "--select" => self.select = number(0, MOST_CHIPS as u32 - 1)? as usize,
+            "--image" => self.images.push(PathBuf::from(value)),
             "--port" => self.port = number(0, 65_535)? as u16,
             "--w" => self.w_high = number(0, 1)? == 1,
             "--bp" => self.bp = number(0, 7)? as u8,
@@ -129,18 +130,45 @@ impl Options {
     }
 
     fn check(self) -> Result<Options, String> {
-        let highest = self.part.highest_bp();
+        let (chips, images) = (self.parts.len(), self.images.len());
+        let Some(part) = self.parts.get(self.select) else {
+            return Err(format!("--select is {}, not {}.", places(chips), self.select));
+        };
+        if images != 0 && images != chips {
+            return Err(image_count(chips, images));
+        }
+        let highest = part.highest_bp();
         if self.bp > highest {
-            let name = PARTS.into_iter().find(|(_, part)| *part == self.part).map(|(name, _)| name);
-            let name = name.unwrap_or(self.part.name());
+            let name = name_of(*part);
             return Err(format!("--bp is 0 to {highest} on the {name}, not {}.", self.bp));
         }
         Ok(self)
     }
 }
 
-const KNOWN: [&str; 15] = [
+/// The numbers of so many chips.
+fn places(chips: usize) -> String {
+    match chips {
+        1 => "0 with one chip".to_string(),
+        chips => format!("0 to {} with {chips} chips", chips - 1),
+    }
+}
+
+/// The sentence of so many images for so many chips.
+fn image_count(chips: usize, images: usize) -> String {
+    if chips == 1 {
+        return "--image is given twice.".to_string();
+    }
+    let times = if images == 1 { "once".to_string() } else { format!("{images} times") };
+    format!(
+        "--image is given {times} with {chips} chips; it is given for each of them, in their order, \
+         or not at all."
+    )
+}
+
+const KNOWN: [&str; 16] = [
     "--part",
+    "--select",
     "--image",
     "--port",
     "--w",
@@ -156,18 +184,6 @@ const KNOWN: [&str; 15] = [
     "--cut-after",
     "--seed",
 ];
-
-/// A part by flashrom's name, in any case.
-fn named(value: &OsStr) -> Result<Part, String> {
-    let found = PARTS.into_iter().find(|(name, _)| value.eq_ignore_ascii_case(name));
-    found.map(|(_, part)| part).ok_or(format!("--part is {}, not {}.", names(), shown(value)))
-}
-
-/// flashrom's names, parted by commas and an 'or'.
-fn names() -> String {
-    let [first @ .., last] = PARTS.map(|(name, _)| name);
-    format!("{} or {last}", first.join(", "))
-}
 
 /// A word of the command line as text.
 fn shown(word: &OsStr) -> Display<'_> {

@@ -1,4 +1,4 @@
-//! The server: one client after another on a loopback port. The image is written back when a client lets
+//! The server: one client after another on a loopback port. The images are written back when a client lets
 //! the pins go, before that is acknowledged, and behind each client.
 
 use std::io::{self, Read, Write};
@@ -7,7 +7,7 @@ use std::sync::atomic::{AtomicBool, Ordering};
 use std::thread;
 use std::time::Duration;
 
-use super::{serve, Board, Image, Options};
+use super::{serve, Board, Images, Options};
 
 /// How long the server sleeps between two looks for a client.
 const LOOK: Duration = Duration::from_millis(5);
@@ -18,27 +18,22 @@ const PATIENCE: Duration = Duration::from_millis(100);
 pub struct Server {
     listener: TcpListener,
     board: Board,
-    image: Option<Image>,
+    images: Images,
 }
 
 impl Server {
-    /// Reads the image and takes the port, or says in a sentence why not.
+    /// Reads the images and takes the port, or says in a sentence why not.
     pub fn start(options: &Options) -> Result<Server, String> {
-        let image = match &options.image {
-            Some(path) => Some(Image::open(path, options.part)?),
-            None => None,
-        };
+        let images = Images::open(&options.images, &options.parts)?;
         let listener = TcpListener::bind((Ipv4Addr::LOCALHOST, options.port))
             .and_then(|listener| listener.set_nonblocking(true).map(|()| listener))
             .map_err(|e| format!("Port {} can't be had: {e}.", options.port))?;
         let mut board = Board::new(options);
-        if let Some(image) = &image {
-            board.fill(image.contents());
-        }
-        Ok(Server { listener, board, image })
+        images.contents().enumerate().for_each(|(chip, contents)| board.fill(chip, contents));
+        Ok(Server { listener, board, images })
     }
 
-    /// From now on each call to the chip is written down, with its answer.
+    /// From now on each call to the selected chip is written down, with its answer.
     pub fn trace(&mut self, into: Box<dyn Write + Send>) {
         self.board.trace(into);
     }
@@ -58,7 +53,7 @@ impl Server {
         self.listener.local_addr()
     }
 
-    /// Serves until told to stop; a cycle that is running then is completed. Where the image can't be written,
+    /// Serves until told to stop; a cycle that is running then is completed. Where an image can't be written,
     /// `complain` is told, and the next time is another try; at the end it is an error.
     pub fn run(&mut self, stop: &AtomicBool, complain: impl Fn(&str)) -> Result<(), String> {
         while !stop.load(Ordering::Relaxed) {
@@ -66,22 +61,16 @@ impl Server {
                 thread::sleep(LOOK);
                 continue;
             };
-            let Server { board, image, .. } = self;
-            let mut stored =
-                |board: &Board| store(image, board).map_err(|sentence| complain(&sentence)).is_ok();
+            let Server { board, images, .. } = self;
+            let mut stored = |board: &Board| {
+                images.store(board.arrays()).map_err(|sentences| complain(&sentences)).is_ok()
+            };
             // However a client ends, the next one is served.
             let _ = Link::new(stream, stop).and_then(|link| serve(link, board, &mut stored));
             stored(board);
         }
         self.board.finish();
-        store(&mut self.image, &self.board)
-    }
-}
-
-fn store(image: &mut Option<Image>, board: &Board) -> Result<(), String> {
-    match image {
-        Some(image) => image.store(board.array()),
-        None => Ok(()),
+        self.images.store(self.board.arrays())
     }
 }
 
