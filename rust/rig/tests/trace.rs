@@ -117,23 +117,28 @@ fn missing_in(printed: &str) -> Vec<(u8, u32)> {
     missing.collect()
 }
 
-/// Random programs without an erase: the bits missing in the trace are the model's. Over a page the random bytes
-/// miss some 512 bits the first time, 768 the second, and up to 1,024 when nothing is left to clear.
-#[test]
-fn trace_of_rewrites_equals_model() {
-    let (part, mut rng, trace) = (Part::M25p40, Rng::new(14), Told::default());
-    let old = rng.bytes(part.bytes());
-    let mut board = Board::new(&Options::of(part));
-    board.fill(0, &old);
+/// The contents that 300 random programs without an erase leave in the selected chip, and their trace.
+fn rewrites(options: &Options, old: &[u8], rng: &mut Rng) -> (Vec<u8>, String) {
+    let (mut board, trace) = (Board::new(options), Told::default());
+    board.fill(options.select, old);
     board.trace(Box::new(trace.clone()));
     for _ in 0..300 {
-        for sent in [vec![0x06], random_program(&mut rng)] {
+        for sent in [vec![0x06], random_program(rng)] {
             board.operate(sent, 0);
         }
         board.delay(2_000);
     }
-    let printed = trace.text();
-    assert!(modelled(part, &old, &printed) == board.array());
+    (board.array().to_vec(), trace.text())
+}
+
+/// Random programs without an erase: the bits missing in the trace are the model's. Over a page the random bytes
+/// miss some 512 bits the first time, 768 the second, and up to 1,024 when nothing is left to clear.
+#[test]
+fn trace_of_rewrites_equals_model() {
+    let (part, mut rng) = (Part::M25p40, Rng::new(14));
+    let old = rng.bytes(part.bytes());
+    let (left, printed) = rewrites(&Options::of(part), &old, &mut rng);
+    assert!(modelled(part, &old, &printed) == left);
     let all = missing_in(&printed);
     let beyond = all.iter().filter(|(high, _)| *high >= 0x08).count();
     let within = all.len() - beyond;
@@ -141,6 +146,19 @@ fn trace_of_rewrites_equals_model() {
     for numbers in [1..100, 400..640, 640..840, 840..1_200] {
         let times = all.iter().filter(|(_, missing)| numbers.contains(missing)).count();
         assert!(times >= 20, "{numbers:?} bits were missing {times} times only");
+    }
+}
+
+/// A chip among others: the model of this chip alone gives the same answers.
+#[test]
+fn trace_of_the_selected_chip_equals_model() {
+    let (parts, mut rng) = ([Part::M25p10a, Part::M25p40, Part::M25pe40], Rng::new(18));
+    for (select, part) in parts.into_iter().enumerate() {
+        let options = Options { parts: parts.to_vec(), select, ..Options::of(part) };
+        let old = rng.bytes(part.bytes());
+        let (left, printed) = rewrites(&options, &old, &mut rng);
+        assert!(modelled(part, &old, &printed) == left, "chip {select}");
+        assert!(missing_in(&printed).len() > 200, "chip {select}");
     }
 }
 
