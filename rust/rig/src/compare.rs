@@ -1,6 +1,7 @@
 //! The comparison: one call is made to libm25p.a and to the model, and every lent byte is compared.
 
 mod batches;
+pub mod bus;
 mod ends;
 pub mod images;
 mod locks;

@@ -65,7 +65,7 @@ impl Generator {
         (call, vec![])
     }
 
-    fn ticks(&mut self, now: &Record) -> u32 {
+    pub(crate) fn ticks(&mut self, now: &Record) -> u32 {
         let left = match now.mode {
             Mode::Busy(left, _) => left,
             _ => 1,
@@ -115,7 +115,7 @@ impl Generator {
         self.rng.pick(&[1, 1, 2, 3, 5, 9, 255, 256, 65_536, 1_000_000, random])
     }
 
-    fn transaction(&mut self, now: &Record, odd: bool) -> (Call, Vec<Filled>) {
+    pub(crate) fn transaction(&mut self, now: &Record, odd: bool) -> (Call, Vec<Filled>) {
         let code = self.code(now);
         let mut sent = self.sent(code, now);
         if odd && self.rng.one_in(20) {

@@ -6,6 +6,8 @@
 pub mod batch_generate;
 pub mod batch_model;
 pub mod bench_model;
+pub mod bus_generate;
+pub mod bus_model;
 pub mod compare;
 pub mod faults;
 pub mod generate;

@@ -4,7 +4,7 @@ use super::{Call, Step};
 use crate::model::RECORD_BYTES;
 
 /// The first of the bytes in hex.
-fn hex(bytes: &[u8], most: usize) -> String {
+pub fn hex(bytes: &[u8], most: usize) -> String {
     let text: String = bytes.iter().take(most).map(|byte| format!("{byte:02X}")).collect();
     text + if bytes.len() > most { "..." } else { "" }
 }

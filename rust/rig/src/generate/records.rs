@@ -88,7 +88,7 @@ impl Generator {
     }
 
     /// A packed record that is mostly not sound, or one of another part.
-    pub(super) fn damaged(&mut self, now: &Record) -> Packed {
+    pub(crate) fn damaged(&mut self, now: &Record) -> Packed {
         let mut bytes = now.pack();
         let anywhere = self.rng.below(RECORD_BYTES);
         let ahead = self.rng.below(CYCLE_AT + SLOTS_AT);
