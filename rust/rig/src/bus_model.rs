@@ -56,7 +56,7 @@ pub trait BusModel: Sync {
     fn wait(&self, row: &mut [u8], array: &mut [u8], ticks: u32) -> Outcome {
         let number = self.refusal(&Lent { row, array: array.len(), asked: Asked::Wait });
         if number == 0 {
-            for place in self.waiting(row) {
+            for (place, ticks) in self.ticks(row, ticks).into_iter().enumerate() {
                 let (record, bytes) = self.lend(row, array, place);
                 CHIP.wait(record, bytes, ticks);
             }
@@ -124,9 +124,9 @@ pub trait BusModel: Sync {
         chip as usize
     }
 
-    /// The places of the chips that wait: all.
-    fn waiting(&self, row: &[u8]) -> Vec<usize> {
-        (0..chips(row)).collect()
+    /// The ticks that pass for each chip: all of them, for every one.
+    fn ticks(&self, row: &[u8], ticks: u32) -> Vec<u32> {
+        vec![ticks; chips(row)]
     }
 
     /// Where the bytes of a chip begin: where those of the chips before it end.

@@ -3,6 +3,7 @@
 
 mod batch;
 mod blocks;
+mod bus;
 mod carried;
 mod chip;
 mod cycles;
@@ -14,11 +15,13 @@ mod missing;
 mod pins;
 mod room;
 mod salvage;
+mod shared;
 mod soundness;
 mod walk;
 mod writes;
 
 pub use batch::BATCH;
+pub use bus::BUS;
 pub use images::{IMAGE, LARGE_IMAGE};
 pub use pins::{LONG, SHORT};
 
