@@ -3,7 +3,7 @@
 
 use crate::bus_model::MOST_CHIPS;
 use crate::compare::bus::{Call, Step, PLACES};
-use crate::compare::{Filled, Source};
+use crate::compare::{self, Filled, Source};
 use crate::generate::Generator;
 use crate::model::*;
 use crate::rng::Rng;
@@ -71,15 +71,30 @@ impl BusGenerator {
         let busy: Vec<usize> = (0..aim.chips).filter(|at| now[*at].cycle().is_some()).collect();
         if self.rng.one_in(if busy.is_empty() { 16 } else { 3 }) {
             let place = if busy.is_empty() { 0 } else { self.rng.pick(&busy) };
-            let ticks = self.calls[place].ticks(&now[place]);
-            return (Call::Wait(ticks), Filled { bytes: vec![], len: 0 });
+            return (self.wait(now, place), Filled { bytes: vec![], len: 0 });
         }
         let place = self.place(aim.chips);
-        let (call, mut filled) = self.calls[place].transaction(&now[place], aim.odd);
-        let (chip, response) = (self.number(place, aim), filled.remove(0));
+        let chip = self.number(place, aim);
+        self.transaction(now, place, chip, aim.odd)
+    }
+
+    /// A wait that has something to do for the chip in this place, mostly.
+    pub fn wait(&mut self, now: &[Record], place: usize) -> Call {
+        Call::Wait(self.calls[place].ticks(&now[place]))
+    }
+
+    /// A transaction that has something to do for the chip in this place, mostly; it goes to the chip of this number.
+    pub fn transaction(
+        &mut self,
+        now: &[Record],
+        place: usize,
+        chip: u32,
+        odd: bool,
+    ) -> (Call, Filled) {
+        let (call, mut filled) = self.calls[place].transaction(&now[place], odd);
         match call {
-            crate::compare::Call::Transact { sent, pulses, w } => {
-                (Call::Transact { chip, sent, pulses, w }, response)
+            compare::Call::Transact { sent, pulses, w } => {
+                (Call::Transact { chip, sent, pulses, w }, filled.remove(0))
             }
             _ => unreachable!("a transaction"),
         }

@@ -21,7 +21,7 @@ mod walk;
 mod writes;
 
 pub use batch::BATCH;
-pub use bus::BUS;
+pub use bus::{BUS, LARGE_BUS};
 pub use images::{IMAGE, LARGE_IMAGE};
 pub use pins::{LONG, SHORT};
 

@@ -12,7 +12,7 @@ use m25p::{calls, Buffer};
 use super::words::hex;
 use super::{same, Filled, SPARE};
 use crate::bus_generate::BusGenerator;
-use crate::bus_model::{packed, records, BusModel, MOST_CHIPS};
+use crate::bus_model::{bytes, packed, records, sum, BusModel, MOST_CHIPS};
 use crate::model::{Packed, Record, Transaction, RECORD_BYTES};
 use crate::rng::Rng;
 use tally::Met;
@@ -82,21 +82,34 @@ impl Side {
         records(&self.row[self.front..]).map(Record::unpack)
     }
 
-    /// The bytes from the beginning of the array on.
-    pub fn array(&self) -> &[u8] {
-        &self.array[self.front..]
-    }
-
-    pub fn array_mut(&mut self) -> &mut [u8] {
-        &mut self.array[self.front..]
-    }
-
+    /// The bytes from the beginning of the row on, and those from the beginning of the array on.
     pub fn row(&self) -> &[u8] {
         &self.row[self.front..]
     }
 
+    pub fn array(&self) -> &[u8] {
+        &self.array[self.front..]
+    }
+
     pub fn response(&self) -> &[u8] {
         &self.response
+    }
+
+    /// The record and the bytes of the chip in this place.
+    pub fn chip(&self, place: usize) -> (&[u8], &[u8]) {
+        let record = &self.row()[packed(place)];
+        (record, &self.array()[self.begin(place)..][..bytes(record)])
+    }
+
+    /// Puts another chip of the same part in this place.
+    pub fn put(&mut self, place: usize, record: &[u8], bytes: &[u8]) {
+        let begin = self.front + self.begin(place);
+        self.row[self.front..][packed(place)].copy_from_slice(record);
+        self.array[begin..begin + bytes.len()].copy_from_slice(bytes);
+    }
+
+    fn begin(&self, place: usize) -> usize {
+        sum(&self.row()[..packed(place).start])
     }
 
     /// Puts in place what the step brings.
@@ -139,8 +152,9 @@ impl Side {
         outcome.word()
     }
 
-    /// What a call with this answer may have changed since `before`, of row, array and response; the rest has stayed.
-    fn stayed(&self, step: &Step, answer: u8, before: &Side) -> Result<(), String> {
+    /// Whether what a call with this answer must leave alone is as `before`, of row, array and response; else the first
+    /// byte that is not, in words.
+    pub fn stayed(&self, step: &Step, answer: u8, before: &Side) -> Result<(), String> {
         let [row, array, response] = changeable(step, answer);
         let shifted = |range: Range<usize>| self.front + range.start..self.front + range.end;
         same_but("row", &self.row, &before.row, shifted(row))?;
@@ -167,13 +181,13 @@ fn same_but(what: &str, now: &[u8], before: &[u8], but: Range<usize>) -> Result<
     same(what, but.end, &now[but.end..], &before[but.end..]).map_err(told)
 }
 
-/// Chips on a bus, on both sides.
-#[derive(Clone)]
+/// Chips on a bus, on both sides, and as they were before the last call.
 pub struct Pair<'a> {
     parts: Vec<u8>,
     rules: &'a dyn BusModel,
     pub real: Side,
     modelled: Side,
+    before: Side,
 }
 
 impl<'a> Pair<'a> {
@@ -181,7 +195,7 @@ impl<'a> Pair<'a> {
     pub fn new(chips: &[Record], rules: &'a dyn BusModel, rng: &mut Rng) -> Pair<'a> {
         let parts = chips.iter().map(|record| record.part).collect();
         let real = Side::new(chips, rng);
-        Pair { parts, rules, modelled: real.clone(), real }
+        Pair { parts, rules, modelled: real.clone(), before: real.clone(), real }
     }
 
     /// The records between two calls, which are sound.
@@ -189,16 +203,28 @@ impl<'a> Pair<'a> {
         self.real.records().map(|record| record.expect("sound records between two calls")).collect()
     }
 
+    /// Puts another chip of the same part in this place.
+    pub fn put(&mut self, place: usize, record: &[u8], bytes: &[u8]) {
+        for side in [&mut self.real, &mut self.modelled, &mut self.before] {
+            side.put(place, record, bytes);
+        }
+    }
+
     /// Makes the call on both sides: the 64 bits, or the first difference in words.
     pub fn step(&mut self, step: &Step, tally: &mut Buses) -> Result<u64, String> {
         let row = self.real.row.clone();
         self.real.prepare(step);
         self.modelled.prepare(step);
-        let before = self.real.clone();
+        self.before.row.clone_from(&self.real.row);
+        self.before.response.clone_from(&self.real.response);
         let (word, expected) = (self.real.call(step), self.modelled.model_call(step, self.rules));
-        self.compare(step, word, expected, &before)
-            .map_err(|difference| format!("{difference}\nat {}", step.describe(&before)))?;
-        tally.count(&Met::new(step, word, &before, &self.real));
+        self.compare(step, word, expected)
+            .map_err(|difference| format!("{difference}\nat {}", step.describe(&self.before)))?;
+        tally.count(&Met::new(step, word, &self.before, &self.real));
+        // Copying a large array takes its time: no other call has changed it.
+        if matches!(step.call, Call::Wait(_)) && word == 0 {
+            self.before.array.copy_from_slice(&self.real.array);
+        }
         if !self.kept() {
             self.real.row.clone_from(&row);
             self.modelled.row = row;
@@ -212,14 +238,14 @@ impl<'a> Pair<'a> {
         parts.eq(self.parts.iter().map(|part| Some(*part)))
     }
 
-    fn compare(&self, step: &Step, word: u64, expected: u64, before: &Side) -> Result<(), String> {
+    fn compare(&self, step: &Step, word: u64, expected: u64) -> Result<(), String> {
         if word != expected {
             return Err(format!("answer {word:#x}, expected {expected:#x}"));
         }
         same("row", 0, &self.real.row, &self.modelled.row)?;
         same("response", 0, &self.real.response, &self.modelled.response)?;
         same("array", 0, &self.real.array, &self.modelled.array)?;
-        self.real.stayed(step, word as u8, before)
+        self.real.stayed(step, word as u8, &self.before)
     }
 }
 

@@ -169,6 +169,12 @@ pub const BUS: &[(&str, &dyn BusModel)] = named![
     ExecutedThough(4),
 ];
 
+/// Those that large parts alone show: their bytes begin above 16,777,215.
+pub const LARGE_BUS: &[(&str, &dyn BusModel)] = named![
+    Begins(|row, place| Paper.begin(row, place) % (1 << 24)),
+    Begins(|row, place| Paper.begin(row, place).min(1 << 24)),
+];
+
 /// The chosen place of a transaction.
 fn chosen(asked: &Asked) -> Option<usize> {
     match asked {

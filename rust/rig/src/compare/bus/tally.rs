@@ -3,7 +3,7 @@
 use std::collections::BTreeMap;
 
 use super::{Call, Side, Step};
-use crate::bus_model::{bytes, chips, packed, sound, sum, MOST_CHIPS};
+use crate::bus_model::{bytes, chips, sound, sum, MOST_CHIPS};
 use crate::model::{full_address, Cycle, Mode, Record, BE, PP, READ, RECORD_BYTES, WREN};
 
 /// A call that was answered, and what it met.
@@ -144,11 +144,7 @@ impl<'a> Met<'a> {
     fn changed(&self, such: fn(usize, usize) -> bool) -> bool {
         let Some(ticks) = self.waited().filter(|ticks| *ticks > 0) else { return false };
         let mut ends = self.left().map(|left| left.is_some_and(|left| left <= ticks));
-        let bytes = |place: usize| {
-            let begin = sum(&self.row[..packed(place).start]);
-            begin..begin + bytes(&self.row[packed(place)])
-        };
-        let changed = |place| self.before.array()[bytes(place)] != self.after.array()[bytes(place)];
+        let changed = |place| self.before.chip(place).1 != self.after.chip(place).1;
         (0..self.chips())
             .any(|place| ends.next() == Some(true) && such(place, self.chips()) && changed(place))
     }
