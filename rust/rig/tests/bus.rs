@@ -16,8 +16,9 @@ use rig::{number, tell};
 
 const DEFAULT_CALLS: u64 = 100_000;
 
-/// The calls of one episode.
+/// The calls of one episode, and of one in twenty.
 const EPISODE: u64 = 100;
+const LONG: u64 = 1_000;
 
 #[test]
 fn calls_equal_model() {
@@ -27,7 +28,8 @@ fn calls_equal_model() {
     let mut seeds = Rng::new(seed);
     while tally.calls < calls {
         let parts = bus_generate::parts(&mut seeds);
-        let same = episode(&parts, EPISODE, seeds.draw(), &Paper, &mut tally);
+        let calls = if seeds.one_in(20) { LONG } else { EPISODE };
+        let same = episode(&parts, calls, seeds.draw(), &Paper, &mut tally);
         same.unwrap_or_else(|why| panic!("{why}"));
     }
     tell(&format!("bus: {}", tally.show()));

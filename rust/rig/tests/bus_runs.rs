@@ -216,3 +216,63 @@ fn neighbours_matter_with_a_fault() {
     }
     tell(&format!("bus: {seen} faults seen by runs that differ"));
 }
+
+/// Random calls on a bus: the first byte, in words, that a call should have left alone.
+fn leaves_alone(maker: Maker, seed: u64, answers: &mut [u64; 64]) -> Result<(), String> {
+    let mut rng = Rng::new(seed);
+    let parts = parts(&mut rng);
+    let mut generator = BusGenerator::new(&parts, rng.draw());
+    let records = generator.sound_records();
+    let mut side = Side::new(&records, &mut rng);
+    let own: Vec<u8> = records.iter().map(|record| record.part).collect();
+    let mut now = records;
+    for _ in 0..100 {
+        let step = generator.step(&now);
+        let kept = side.clone();
+        side.prepare(&step);
+        let before = side.clone();
+        let answer = maker.call(&mut side, &step) as u8;
+        side.stayed(&step, answer, &before).map_err(|what| format!("seed {seed}: {what}"))?;
+        answers[usize::from(answer)] += 1;
+        let left: Option<Vec<Record>> = side.records().collect();
+        match left.filter(|left| left.iter().map(|record| record.part).eq(own.iter().copied())) {
+            Some(left) => now = left,
+            None => side = kept,
+        }
+    }
+    Ok(())
+}
+
+/// A refused call changes nothing, a transaction the chosen record alone, and no call a byte around what it is lent.
+#[test]
+fn other_bytes_stay() {
+    let mut seeds = Rng::new(number("RIG_SEED", SEED));
+    let mut answers = [0; 64];
+    for _ in 0..200 {
+        leaves_alone(Maker::Library, seeds.draw(), &mut answers).unwrap();
+    }
+    let numbers = [8, 51, 52, 6, 53, 3, 4, 5];
+    let refused = numbers.map(|number| answers[number]);
+    tell(&format!("bus: nothing changed with {numbers:?}: {refused:?}"));
+    assert!(refused.into_iter().all(|times| times >= 20));
+}
+
+/// Faults that change what should stay, in the model instead of the library.
+#[test]
+fn other_bytes_change_with_a_fault() {
+    let kinds = ["Reaches(", "RefusalFills(", "ExecutedThough(", "RefusesOnTheWay", "WaitsAsFar"];
+    let names = ["record_to_place_0", "record_to_the_next", "record_to_all", "others_lose"];
+    let names = [&names[..], &["others_tick", "program_at_once", "response_beyond_n"]].concat();
+    let such = |name: &str| {
+        let after = name.strip_prefix("Afterwards(").unwrap_or("");
+        kinds.iter().any(|kind| name.starts_with(kind))
+            || names.iter().any(|one| after.starts_with(one))
+    };
+    let found: Vec<_> = faults::BUS.iter().filter(|(name, _)| such(name)).collect();
+    assert_eq!(found.len(), 22);
+    for (name, fault) in found {
+        let mut seeds = Rng::new(SEED);
+        let differs = |_| leaves_alone(Maker::Faulty(*fault), seeds.draw(), &mut [0; 64]).is_err();
+        assert!((0..100).any(differs), "{name} was not seen");
+    }
+}
