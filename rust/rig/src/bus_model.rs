@@ -23,6 +23,13 @@ pub enum Asked<'a> {
     Wait,
 }
 
+/// The buffers that a transaction is lent.
+pub struct Buffers<'a> {
+    pub row: &'a mut [u8],
+    pub array: &'a mut [u8],
+    pub response: &'a mut [u8],
+}
+
 /// What a call looks at before it does anything.
 pub struct Lent<'a> {
     pub row: &'a [u8],
@@ -34,14 +41,8 @@ pub struct Lent<'a> {
 /// The rules of a bus.
 pub trait BusModel: Sync {
     /// One transaction of the chosen chip.
-    fn transact(
-        &self,
-        row: &mut [u8],
-        array: &mut [u8],
-        chip: u32,
-        t: Transaction,
-        response: &mut [u8],
-    ) -> Outcome {
+    fn transact(&self, buffers: &mut Buffers, chip: u32, t: Transaction) -> Outcome {
+        let Buffers { row, array, response } = buffers;
         let asked = Asked::Transact { chip, t, response: response.len() };
         match self.refusal(&Lent { row, array: array.len(), asked }) {
             0 => {

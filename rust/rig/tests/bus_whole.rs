@@ -153,10 +153,10 @@ fn every_byte_of_a_record() {
     let lengths = [3 * RECORD_BYTES, 2 * BENCH + PARTS[6].bytes];
     let mut sweep = Sweep::new(&records);
     let (mut good, mut bad) = (0, 0);
-    for place in 0..3 {
+    for (place, record) in records.iter().enumerate() {
         for at in 0..RECORD_BYTES {
             for change in [0x01, 0x80] {
-                let mut record = records[place].pack();
+                let mut record = record.pack();
                 record[at] ^= change;
                 let record = vec![(place, record)];
                 let chip = (place + at) as u32 % 3;

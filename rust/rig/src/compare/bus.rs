@@ -12,7 +12,7 @@ use m25p::{calls, Buffer};
 use super::words::hex;
 use super::{same, Filled, SPARE};
 use crate::bus_generate::BusGenerator;
-use crate::bus_model::{bytes, packed, records, sum, BusModel, MOST_CHIPS};
+use crate::bus_model::{bytes, packed, records, sum, Buffers, BusModel, MOST_CHIPS};
 use crate::model::{Packed, Record, Transaction, RECORD_BYTES};
 use crate::rng::Rng;
 use tally::Met;
@@ -145,7 +145,7 @@ impl Side {
         let outcome = match &step.call {
             Call::Transact { chip, sent, pulses, w } => {
                 let t = Transaction { sent, pulses: *pulses, w: *w };
-                rules.transact(row, array, *chip, t, response)
+                rules.transact(&mut Buffers { row, array, response }, *chip, t)
             }
             Call::Wait(ticks) => rules.wait(row, array, *ticks),
         };

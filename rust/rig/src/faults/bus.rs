@@ -294,17 +294,10 @@ impl BusModel for Begins {
 struct RefusalFills(u8);
 
 impl BusModel for RefusalFills {
-    fn transact(
-        &self,
-        row: &mut [u8],
-        array: &mut [u8],
-        chip: u32,
-        t: Transaction,
-        response: &mut [u8],
-    ) -> Outcome {
-        let outcome = BUS_PAPER.transact(row, array, chip, t, response);
+    fn transact(&self, buffers: &mut Buffers, chip: u32, t: Transaction) -> Outcome {
+        let outcome = BUS_PAPER.transact(buffers, chip, t);
         if outcome.answer == self.0 {
-            response.iter_mut().take(t.sent.len()).for_each(|byte| *byte = 0xFF);
+            buffers.response.iter_mut().take(t.sent.len()).for_each(|byte| *byte = 0xFF);
         }
         outcome
     }
@@ -314,19 +307,12 @@ impl BusModel for RefusalFills {
 struct ExecutedThough(u8);
 
 impl BusModel for ExecutedThough {
-    fn transact(
-        &self,
-        row: &mut [u8],
-        array: &mut [u8],
-        chip: u32,
-        t: Transaction,
-        response: &mut [u8],
-    ) -> Outcome {
-        let outcome = BUS_PAPER.transact(row, array, chip, t, response);
+    fn transact(&self, buffers: &mut Buffers, chip: u32, t: Transaction) -> Outcome {
+        let outcome = BUS_PAPER.transact(buffers, chip, t);
         if outcome.answer == self.0 {
-            let (record, bytes) = Paper.lend(row, array, chip as usize);
+            let (record, bytes) = Paper.lend(buffers.row, buffers.array, chip as usize);
             let pulses = t.pulses % 8;
-            CHIP.transact(record, bytes, Transaction { pulses, ..t }, response);
+            CHIP.transact(record, bytes, Transaction { pulses, ..t }, buffers.response);
         }
         outcome
     }

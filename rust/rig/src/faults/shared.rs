@@ -208,17 +208,11 @@ pub struct After<'a> {
 }
 
 impl BusModel for Afterwards {
-    fn transact(
-        &self,
-        row: &mut [u8],
-        array: &mut [u8],
-        chip: u32,
-        t: Transaction,
-        response: &mut [u8],
-    ) -> Outcome {
-        let before = row.to_vec();
-        let mut outcome = BUS_PAPER.transact(row, array, chip, t, response);
+    fn transact(&self, buffers: &mut Buffers, chip: u32, t: Transaction) -> Outcome {
+        let before = buffers.row.to_vec();
+        let mut outcome = BUS_PAPER.transact(buffers, chip, t);
         if matches!(outcome.answer, 0 | 11..=19) {
+            let Buffers { row, array, response } = buffers;
             let (place, outcome) = (chip as usize, &mut outcome);
             self.0(&mut After { before, place, row, array, t, response, outcome });
         }
@@ -298,18 +292,11 @@ pub fn record_stays(after: &mut After) {
 pub struct Reaches(pub u8);
 
 impl BusModel for Reaches {
-    fn transact(
-        &self,
-        row: &mut [u8],
-        array: &mut [u8],
-        chip: u32,
-        t: Transaction,
-        response: &mut [u8],
-    ) -> Outcome {
-        let outcome = BUS_PAPER.transact(row, array, chip, t, response);
+    fn transact(&self, buffers: &mut Buffers, chip: u32, t: Transaction) -> Outcome {
+        let outcome = BUS_PAPER.transact(buffers, chip, t);
         if outcome.answer == 0 && t.sent[0] == self.0 {
-            for place in (0..chips(row)).filter(|place| *place != chip as usize) {
-                let (record, bytes) = Paper.lend(row, array, place);
+            for place in (0..chips(buffers.row)).filter(|place| *place != chip as usize) {
+                let (record, bytes) = Paper.lend(buffers.row, buffers.array, place);
                 CHIP.transact(record, bytes, t, &mut vec![0; t.sent.len()]);
             }
         }
