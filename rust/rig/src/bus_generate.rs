@@ -189,11 +189,6 @@ impl BusGenerator {
 /// The parts of a bus: mostly the bench part, some of the other small ones, and seldom larger.
 pub fn parts(rng: &mut Rng) -> Vec<usize> {
     let chips = rng.pick(&[1, 2, 2, 3, 3, 4, 5, 6, 7, 8, 8]);
-    let few = rng.pick(&[
-        &[0][..],
-        &[0, 0, 0, 1, 5],
-        &[0, 0, 0, 0, 0, 0, 6],
-        &[0, 0, 0, 0, 0, 1, 2, 5, 6],
-    ]);
+    let few = rng.pick(&[&[0][..], &[0, 0, 0, 1, 5], &[0, 0, 0, 6], &[0, 0, 0, 0, 0, 1, 2, 5, 6]]);
     (0..chips).map(|_| rng.pick(few)).collect()
 }
