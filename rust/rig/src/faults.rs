@@ -12,11 +12,12 @@ mod items;
 mod locks;
 mod losses;
 mod missing;
+mod neighbours;
 mod pins;
 mod room;
 mod salvage;
-mod shared;
 mod soundness;
+mod waits;
 mod walk;
 mod writes;
 

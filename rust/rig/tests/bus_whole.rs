@@ -19,6 +19,13 @@ fn bench(chips: usize) -> Vec<Record> {
     vec![Record::standby(0); chips]
 }
 
+/// A code, a 24-bit address and data.
+fn addressed(code: u8, address: usize, data: &[u8]) -> Vec<u8> {
+    let mut sent = vec![code, (address >> 16) as u8, (address >> 8) as u8, address as u8];
+    sent.extend(data);
+    sent
+}
+
 /// A record that is not sound.
 fn unsound() -> Packed {
     let mut record = Record::standby(0).pack();
@@ -34,7 +41,13 @@ fn refusals(order: &[u8], choice: usize) -> (Vec<u8>, u8) {
     (there, first)
 }
 
-/// Every choice of the eight reasons to refuse a transaction, and of the four to refuse a wait.
+/// The lengths of row and array for so many bench parts, each right unless it is to be refused.
+fn lengths(chips: usize, there: &[u8]) -> [usize; 2] {
+    let wrong = |number: u8| usize::from(there.contains(&number));
+    [chips * RECORD_BYTES + wrong(8), chips * BENCH - wrong(53)]
+}
+
+/// Every choice of the eight reasons to refuse a transaction.
 #[test]
 fn every_choice_of_refusals() {
     let mut sweep = Sweep::new(&bench(10));
@@ -42,30 +55,27 @@ fn every_choice_of_refusals() {
         let (there, first) = refusals(&[8, 51, 52, 6, 53, 3, 4, 5], choice);
         let is = |number: u8| there.contains(&number);
         let chips = if is(51) { 9 } else { 3 };
-        let lengths =
-            [chips * RECORD_BYTES + usize::from(is(8)), chips * BENCH - usize::from(is(53))];
-        let bytes = if is(3) { 65_537 } else { 2 };
-        let mut bytes = sweep.rng.bytes(bytes);
-        bytes[0] = RDSR;
-        let response = bytes.len() - usize::from(is(5));
+        let chip = if is(52) { chips as u32 } else { 2 };
+        let mut sent = sweep.rng.bytes(if is(3) { 65_537 } else { 2 });
+        sent[0] = RDSR;
+        let response = sent.len() - usize::from(is(5));
         let records = if is(6) { vec![(1, unsound())] } else { vec![] };
-        let call = Call::Transact {
-            chip: if is(52) { chips as u32 } else { 2 },
-            sent: bytes,
-            pulses: if is(4) { 8 } else { 7 },
-            w: 0,
-        };
-        let word = sweep.call_filling(records, call, lengths, response);
+        let call = Call::Transact { chip, sent, pulses: if is(4) { 8 } else { 7 }, w: 0 };
+        let word = sweep.call_filling(records, call, lengths(chips, &there), response);
         assert_eq!(word as u8, first, "{there:?}");
     }
+}
+
+/// Every choice of the four to refuse a wait.
+#[test]
+fn every_choice_of_refusals_of_a_wait() {
+    let mut sweep = Sweep::new(&bench(10));
     for choice in 0..1 << 4 {
         let (there, first) = refusals(&[8, 51, 6, 53], choice);
-        let is = |number: u8| there.contains(&number);
-        let chips = if is(51) { 9 } else { 8 };
-        let lengths =
-            [chips * RECORD_BYTES + usize::from(is(8)), chips * BENCH + usize::from(is(53))];
-        let records = if is(6) { vec![(7, unsound())] } else { vec![] };
-        assert_eq!(sweep.call_lent(records, Call::Wait(1), lengths), u64::from(first), "{there:?}");
+        let chips = if there.contains(&51) { 9 } else { 8 };
+        let records = if there.contains(&6) { vec![(7, unsound())] } else { vec![] };
+        let word = sweep.call_lent(records, Call::Wait(1), lengths(chips, &there));
+        assert_eq!(word, u64::from(first), "{there:?}");
     }
 }
 
@@ -170,7 +180,7 @@ fn every_byte_of_a_record() {
     assert!(good > 500 && bad > 500, "{good} sound, {bad} not");
 }
 
-/// Each three of the small parts: what is programmed, erased and read is at the chip's own place.
+/// Each three of the small parts: what is programmed and read is at the chip's own place.
 #[test]
 fn every_order_of_parts() {
     for choice in 0..SMALL.len().pow(3) {
@@ -178,22 +188,15 @@ fn every_order_of_parts() {
         let mut sweep = Sweep::new(&parts.map(|part| Record::standby(part as u8)));
         for (place, part) in parts.into_iter().enumerate() {
             let (chip, last) = (place as u32, PARTS[part].bytes - 1);
-            let address = |code: u8| vec![code, (last >> 16) as u8, (last >> 8) as u8, last as u8];
-            let mut program = address(PP);
-            program.push(0x00);
+            let mut expected = [0, 1, 2].map(|other| sweep.bytes(other).to_vec());
+            expected[place][last] = 0x00;
             assert_eq!(sweep.call(sent(chip, &[WREN])), 0);
-            assert_eq!(sweep.call(sent(chip, &program)) as u8, 0);
-            let before: Vec<Vec<u8>> = (0..3).map(|other| sweep.bytes(other).to_vec()).collect();
+            assert_eq!(sweep.call(sent(chip, &addressed(PP, last, &[0x00]))), 0);
             assert_eq!(sweep.call(Call::Wait(3)), 0);
-            assert_eq!(sweep.bytes(place)[last], 0x00);
-            let differ = |other: &usize| {
-                sweep.bytes(*other)[..last.min(4_095)] != before[*other][..last.min(4_095)]
-            };
-            assert_eq!((0..3).filter(differ).count(), 0);
-            let mut read = address(READ);
-            read.extend([0; 2]);
+            assert!((0..3).all(|other| sweep.bytes(other) == expected[other]), "{parts:?}");
+            let read = addressed(READ, last, &[0; 2]);
             assert_eq!(sweep.call(sent(chip, &read)), 2 << 16 | 4 << 8);
-            assert_eq!(sweep.response(6)[4..], [0x00, before[place][0]], "{parts:?}");
+            assert_eq!(sweep.response(6)[4..], [0x00, expected[place][0]], "{parts:?}");
         }
     }
 }
@@ -241,7 +244,6 @@ fn two_of_the_largest() {
 fn eight_of_the_largest() {
     let (bytes, mut row) = (PARTS[4].bytes, Record::standby(4).pack().repeat(8));
     let mut array = vec![0x0F; 8 * bytes];
-    let address = [(bytes >> 16) as u8 - 1, 0xFF, 0xFF];
     let ask = |row: &mut [u8], array: &mut [u8], chip: u32, sent: &[u8]| {
         let mut response = vec![0x55; sent.len()];
         let word = calls::bus_transact(row, array, chip, sent, 0, 1, &mut response).bits();
@@ -249,7 +251,7 @@ fn eight_of_the_largest() {
     };
     for chip in [7, 3] {
         assert_eq!(ask(&mut row, &mut array, chip, &[WREN]).0, 0);
-        let program = [&[PP], &address[..], &[0x33]].concat();
+        let program = addressed(PP, bytes - 1, &[0x33]);
         assert_eq!(ask(&mut row, &mut array, chip, &program).0, 2 << 48);
     }
     // short by a byte, by a part, and by all but one
@@ -260,8 +262,8 @@ fn eight_of_the_largest() {
     assert_eq!(calls::bus_wait(&mut row, &mut array, 3).bits(), 0);
     for chip in 0..8 {
         let last = if matches!(chip, 3 | 7) { 0x03 } else { 0x0F };
-        let read = [&[READ], &address[..], &[0, 0]].concat();
-        let (word, response) = ask(&mut row, &mut array, chip, &read);
+        let (word, response) =
+            ask(&mut row, &mut array, chip, &addressed(READ, bytes - 1, &[0, 0]));
         assert_eq!((word, &response[4..]), (2 << 16 | 4 << 8, &[last, 0x0F][..]));
         assert_eq!(array[(chip as usize + 1) * bytes - 1], last);
     }

@@ -1,7 +1,8 @@
 //! Deliberate faults of a bus: all of them, and those of what is refused, which chip is chosen, and where its bytes lie.
 
 use super::named;
-use super::shared::*;
+use super::neighbours::*;
+use super::waits::*;
 use crate::bus_model::*;
 use crate::model::{Outcome, Paper, Transaction, DP, RECORD_BYTES, RES, WRDI, WREN};
 
