@@ -13,8 +13,9 @@ use Rattle.parts.specs.Protected.{protectedOf}
 use Rattle.device.specs.declared.Device.{Device}
 use Rattle.device.specs.Locks.{lockOf, locksSound, noLocks}
 use Rattle.device.specs.Cycles.{noSlots, noCycle, pageCycle, eraseCycle, allCycle, settingsCycle, slotsSound, cycleSound, touched, namedSound}
-use Rattle.device.specs.Device.{sound, delivered, latchAt, moded, latched, settled, remembering, running, started, ended, statusByte}
+use Rattle.device.specs.Device.{sound, delivered, latchAt, moded, latched, settled, remembering, running, started, ended, statusByte, zeroRecord}
 use Rattle.device.specs.Time.{afterCycle, finished, waited, timeNumber, waitCall}
+use Rattle.device.specs.Packing.{frontOf, packOf, fieldsOf, formed, unpackAnswer, unpackOf}
 use Rattle.chip.specs.Table.{rowOf, addressOf}
 use Rattle.chip.specs.Answers.{hostNumber, inProtected, asNeeded, chipNumber, decided, verdictOf, protectedAny, protectedAt}
 use Rattle.chip.specs.Line.{byRow, heard, heardRow, driven, lined, drivingAt, firstOf, countOf}
@@ -24,6 +25,8 @@ use Rattle.chip.specs.Events.{sends, waits, Reply}
 use Rattle.chip.specs.Worked.{bench, usual}
 use Rattle.bus.specs.Bus.{sumOf}
 use Rattle.bus.specs.Calls.{wholeNumber, waitNumber, busNumber, chosen, bused, busWaited}
+use Rattle.m25p.specs.Bus.{recordsIn, packedRow, rowAnswer, busedC, busWaitedC}
+use Rattle.told.specs.CCalls.{set-up, at-rest, writes, resettled}
 use Rattle.bus.specs.Runs as bus-runs
 use Rattle.bus.specs.Runs.{Bus, Call, asks, passes, runs, refusal, noneRefused, given}
 
@@ -114,3 +117,34 @@ pub record Run : Type 0 where
 pub a-run : Run
 unfolding mapAt window stored sumAt memory-is.blank memory-is.filled memory-is.programmed memory-is.reached memory-is.landed figuresOf protectedOf sound latchAt moded latched settled remembering running started ended statusByte rowOf addressOf hostNumber inProtected asNeeded chipNumber decided verdictOf byRow heard heardRow driven lined drivingAt firstOf countOf noSlots noCycle pageCycle eraseCycle allCycle settingsCycle slotsSound cycleSound touched cycleOf missingOf missing missingAt pageOf ones onesIn bpIn turned outcomeOf transacted namedSound locksSound noLocks protectedAt protectedAny lockOf afterCycle finished waited timeNumber waitCall chosen bused busWaited wholeNumber waitNumber busNumber
 a-run = record { none-refused = refl; one-hears = refl; one-gives = refl; zero-gives = refl; two-gives = refl; statuses = refl; bytes = refl; last = refl }
+
+-- ---- packed rows
+
+-- the number of a bus transaction from C: a row's bytes, the array's length, the chip, the bytes, further pulses, the response's length
+abbrev pub asked : List ℕ → ℕ → ℕ → List ℕ → ℕ → ℕ → ℕ
+asked row array k bytes pulses response = busedC row (replicate array 0xFF) k bytes pulses 1 (replicate response 0) .answer .number
+
+-- the number of a bus wait from C
+abbrev pub passed : List ℕ → ℕ → ℕ
+passed row array = busWaitedC row (replicate array 0xFF) 1 .answer
+
+-- a row of a bench part at rest and one whose settings write has its last tick left
+abbrev pub two : List ℕ
+two = at-rest ++ writes 0 1
+
+pub record Rows : Type 0 where
+  -- 8 where the length is no multiple of 304; 0 is one
+  pub lengths : map rowAnswer (0 ∷ 1 ∷ 303 ∷ 304 ∷ 305 ∷ 607 ∷ 608 ∷ 2432 ∷ 2735 ∷ 2736 ∷ 2737 ∷ []) ≡ 0 ∷ 8 ∷ 8 ∷ 0 ∷ 8 ∷ 8 ∷ 0 ∷ 0 ∷ 8 ∷ 0 ∷ 8 ∷ []
+  -- a transaction in order, each with all that come after it: 8, 51 for no byte and for nine records, 52, 6, 53, 4, 5, 11
+  pub order : asked (replicate 303 0xFF) 7 9 [] 8 0 ∷ asked [] 7 9 [] 8 0 ∷ asked (replicate 2736 0xFF) 7 9 [] 8 0 ∷ asked (at-rest ++ replicate 304 0xFF) 7 2 [] 8 0 ∷ asked (at-rest ++ replicate 304 0xFF) 7 0 [] 8 0 ∷ asked two 8191 0 (0x05 ∷ []) 8 0 ∷ asked two 8192 0 (0x05 ∷ []) 8 0 ∷ asked two 8192 0 (0x05 ∷ []) 7 0 ∷ asked two 8192 0 [] 7 0 ∷ [] ≡ 8 ∷ 51 ∷ 51 ∷ 52 ∷ 6 ∷ 53 ∷ 4 ∷ 5 ∷ 11 ∷ []
+  -- a wait in order: 8, 51, 6, 53, or 0
+  pub waits-order : passed (replicate 303 0xFF) 7 ∷ passed [] 7 ∷ passed (replicate 2736 0xFF) 7 ∷ passed (at-rest ++ replicate 304 0xFF) 7 ∷ passed two 8191 ∷ passed two 8192 ∷ [] ≡ 8 ∷ 51 ∷ 51 ∷ 6 ∷ 53 ∷ 0 ∷ []
+  -- chip 0 is at rest and takes a write enable; chip 1 is busy and does not
+  pub first : asked two 8192 0 (0x06 ∷ []) 0 1 ∷ asked two 8192 1 (0x06 ∷ []) 0 1 ∷ [] ≡ 0 ∷ 12 ∷ []
+  pub enabled : packedRow (busedC two (replicate 8192 0xFF) 0 (0x06 ∷ []) 0 1 (0xAA ∷ []) .row) ≡ set-up ++ writes 0 1
+  -- one tick ends the settings write, and leaves the chip at rest as it is
+  pub ended-both : packedRow (busWaitedC two (replicate 8192 0xFF) 1 .row) ≡ at-rest ++ resettled
+
+pub rows : Rows
+unfolding mapAt window stored sumAt memory-is.blank memory-is.filled memory-is.programmed memory-is.reached memory-is.landed figuresOf protectedOf sound latchAt moded latched settled remembering running started ended statusByte rowOf addressOf hostNumber inProtected asNeeded chipNumber decided verdictOf byRow heard heardRow driven lined drivingAt firstOf countOf noSlots noCycle pageCycle eraseCycle allCycle settingsCycle slotsSound cycleSound touched cycleOf missingOf missing missingAt pageOf ones onesIn bpIn turned outcomeOf transacted namedSound locksSound noLocks protectedAt protectedAny lockOf afterCycle finished waited timeNumber waitCall chosen bused busWaited wholeNumber waitNumber busNumber delivered zeroRecord frontOf packOf fieldsOf formed unpackAnswer unpackOf recordsIn busedC busWaitedC
+rows = record { lengths = refl; order = refl; waits-order = refl; first = refl; enabled = refl; ended-both = refl }
