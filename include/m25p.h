@@ -425,9 +425,9 @@ uint64_t m25p_batch(uint8_t *record, size_t record_len,
  * Any parts may stand in a row, in any order, and one part more than once. The answer, the response and the
  * selected chip's record become what they become by m25p_transact on that chip's record and bytes alone: the
  * answer with first, count and bits missing, and bytes of the response from sent_len on are left as they are.
- * All other records and the whole array stay. Two runs, neither refused with 8, 51, 52, 6 or 53, that agree
- * on one chip's record and bytes and on what is sent to it and waited give it the same answers, whatever
- * stands beside it and is sent there.
+ * All other records and the whole array stay. Two runs, in which no call is refused with 8, 51, 52, 6, 53,
+ * 3, 4 or 5, that agree on one chip's record and bytes and on what is sent to it and waited give it the same
+ * answers, whatever stands beside it and is sent there.
  *
  * 8 goes by row_len, which must be a multiple of 304. 51: a row of no record, or of more than 8, be they
  * sound or not. 52: chip is not below the number of records. 6: any record of the row is not sound, the

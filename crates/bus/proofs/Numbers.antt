@@ -29,7 +29,7 @@ range-is n e =
     let z = eqb-false n 0 (p .0) in
     (omega arith, ltb-false 8 n (p .1))
 
-pub in-range : (n : ℕ) → 0 < n → n ≤ 8 → outOfRange n ≡ false
+in-range : (n : ℕ) → 0 < n → n ≤ 8 → outOfRange n ≡ false
 in-range n a b = rw (ne-eqb n 0 (λ e. omega arith), le-ltb 8 n b)
 
 -- more than eight
@@ -38,7 +38,7 @@ out-above n h = rw (lt-ltb 8 n h) (or-true (eqb n 0))
 
 module _ (ds : List Device) (n : ℕ) (nine : length ds ≡ 9) where
   -- the first n of nine places are in range exactly if n is
-  pub range-take : outOfRange (length (take n ds)) ≡ outOfRange n
+  range-take : outOfRange (length (take n ds)) ≡ outOfRange n
   range-take = go (leb n 9) refl
     where
       go : (t : Bool) → leb n 9 ≡ t → outOfRange (length (take n ds)) ≡ outOfRange n

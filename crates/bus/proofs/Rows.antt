@@ -1,4 +1,4 @@
--- Laws of rows of records: sums and soundness, one record more; and the tests of a row that is the first n of nine places.
+-- Laws of rows of records: sums and soundness, one record more.
 -- Assumes nothing.
 use mathlib.Core.Path.{_≡_, refl, sym, ap, _∙_}
 use mathlib.Core.Bool.{Bool, true, false, _&&_}
@@ -49,7 +49,7 @@ and-assoc : (a b c : Bool) → a && (b && c) ≡ a && b && c
 and-assoc true b c = refl
 and-assoc false b c = refl
 
-pub sound-append : (a b : List Device) → allSound (a ++ b) ≡ allSound a && allSound b
+sound-append : (a b : List Device) → allSound (a ++ b) ≡ allSound a && allSound b
 sound-append [] b = refl
 sound-append (d ∷ a) b = ap (λ (t : Bool). sound d && t) (sound-append a b) ∙ and-assoc (sound d) (allSound a) (allSound b)
 

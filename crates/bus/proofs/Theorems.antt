@@ -3,27 +3,28 @@
 use mathlib.Core.Path.{_≡_, refl, sym, ap, ap₂, subst, _∙_}
 use mathlib.Core.Bool.{Bool, true, false, cond, not}
 use mathlib.Core.List.{List, [], _∷_, _++_, append-nil}
-use Prim.Native.Nat.{ℕ, suc, _+_, _<_}
+use Prim.Native.Nat.{ℕ, zero, suc, _+_, _<_}
 use native.Mathlib.Omega.{arith}
 use borrow.Author.Tests.{eqb-true, eqb-false, not-true, eq-eqb, ne-eqb}
 use lib.Dec.{eqb}
-use lib.ListN.{length, take}
-use lib.Seq.{take-all}
+use lib.ListN.{length, set, take}
+use lib.Seq.{take-all, set-getD}
+use Rattle.slices.specs.Chosen.{onZero}
 use Rattle.slices.proofs.Choices.{both}
 use Rattle.device.specs.declared.Device.{Device}
-use Rattle.device.specs.Device.{sound}
-use Rattle.device.specs.Chip.{chip}
+use Rattle.device.specs.Device.{sound, zeroRecord}
+use Rattle.device.specs.Chip.{Chip, chip}
 use Rattle.device.specs.Time.{timeNumber, waitCall}
 use Rattle.chip.specs.declared.Answer.{Answer}
 use Rattle.chip.specs.Answers.{hostNumber, decided, verdictOf}
 use Rattle.chip.specs.Outcome.{Outcome, bare, outcomeOf, transacted}
 use Rattle.chip.specs.Events.{left, Good, Event, sends, waits, Reply, after, reply, run, story}
-use Rattle.chip.proofs.Rules.{array-stays}
+use Rattle.chip.proofs.Rules.{array-stays, only-zero-changes}
 use Rattle.bus.specs.Bus.{bytesOf, chipsIn, at, nth}
 use Rattle.bus.specs.Calls.{wholeNumber, waitNumber, busNumber, Shared, bused, Bused, Waited, busWaited, AllWaited}
 use Rattle.bus.specs.Runs.{Bus, chipOf, Call, asks, passes, numberOf, next, runs, refusal, noneRefused, heard, given}
 use Rattle.bus.proofs.Numbers.{Whole, bus-zero, zero-bus, zero-wait}
-use Rattle.bus.proofs.Chips.{array-in, array-same}
+use Rattle.bus.proofs.Chips.{chip-at, row-set, array-in, array-same}
 use Rattle.bus.proofs.Turns.{shared, done-is, refused-is}
 use Rattle.bus.proofs.Waits.{passed-is}
 use Rattle.bus.proofs.Eight.{turned-length, waited-length}
@@ -49,6 +50,31 @@ bytes-stay row array j sent pulses w response = go (eqb (busNumber row (length a
         ap (λ (s : Shared). s .array) (done-is row array j sent pulses w response z)
         ∙ (array-same (chipsIn row array) j (left (transacted (c .device) (c .array) sent pulses w response)) (array-stays (c .device) (c .array) sent pulses w response) ∙ array-in row array (bus-zero row (length array) j z .0 .sum))
     go false e = ap (λ (s : Shared). s .array) (sym (refused-is row array j sent pulses w response (eqb-false (busNumber row (length array) j) 0 e)))
+
+-- with any other answer than 0 the row stays, too
+pub only-zero : (row : List Device) (array : List ℕ) (j : ℕ) (sent : List ℕ) (pulses : ℕ) (w : Bool) (response : List ℕ) → (bused row array j sent pulses w response .answer .number ≡ 0 → ⊥)
+    → bused row array j sent pulses w response .row ≡ row
+only-zero row array j sent pulses w response n = go (eqb (busNumber row (length array) j) 0) refl
+  where
+    go : (t : Bool) → eqb (busNumber row (length array) j) 0 ≡ t → bused row array j sent pulses w response .row ≡ row
+    go true e =
+        let z = eqb-true (busNumber row (length array) j) 0 e in
+        let c = nth (chipsIn row array) j in
+        let o = transacted (c .device) (c .array) sent pulses w response in
+        let is = done-is row array j sent pulses w response z in
+        let stays = only-zero-changes (c .device) (c .array) sent pulses w response (λ q. n (ap (λ (s : Shared). s .answer .number) is ∙ q)) .0 in
+        let there = ap (λ (d : Chip). d .device) (chip-at row array j (bus-zero row (length array) j z .1)) in
+        ap (λ (s : Shared). s .row) is ∙ (row-set row array j (left o) ∙ (ap (set row j) (stays ∙ there) ∙ set-getD row j zeroRecord))
+    go false e = ap (λ (s : Shared). s .row) (sym (refused-is row array j sent pulses w response (eqb-false (busNumber row (length array) j) 0 e)))
+
+-- and of a wait
+pub only-zero-waits : (row : List Device) (array : List ℕ) (t : ℕ) → (busWaited row array t .answer ≡ 0 → ⊥) → (busWaited row array t .row ≡ row) × (busWaited row array t .array ≡ array)
+unfolding busWaited
+only-zero-waits row array t n = go (waitNumber row (length array)) _ _ refl refl refl n
+  where
+    go : (k : ℕ) (x y : Waited) → x .answer ≡ 0 → y .row ≡ row → y .array ≡ array → (onZero k x y .answer ≡ 0 → ⊥) → (onZero k x y .row ≡ row) × (onZero k x y .array ≡ array)
+    go zero x y p q r n = absurd (n p)
+    go (suc k) x y p q r n = (q, r)
 
 -- ---- two runs
 

@@ -1,4 +1,4 @@
--- Document 02, Wish 10: a row of records beside one array, as chips beside each other; and what may be done to them.
+-- Document 02, Wish 10: a row of records beside one array, as chips beside each other.
 use mathlib.Core.Bool.{Bool, true, _&&_}
 use mathlib.Core.List.{List, [], _∷_, _++_}
 use Prim.Native.Nat.{ℕ, _+_}
@@ -37,9 +37,10 @@ abbrev pub arrayOf : List Chip → List ℕ
 arrayOf [] = []
 arrayOf (c ∷ cs) = c .array ++ arrayOf cs
 
--- record i of a row, and chip i of chips, counted from 0
+-- record i of a row, counted from 0
 abbrev pub at : List Device → ℕ → Device
 at ds i = getD ds i zeroRecord
 
+-- chip i of chips, counted from 0
 abbrev pub nth : List Chip → ℕ → Chip
 nth cs i = getD cs i (chip zeroRecord [])

@@ -69,6 +69,7 @@ pub record Bused (o : Shared) (a : Answer) (row′ : List Device) (array′ resp
 
 -- ---- a wait of all chips
 
+-- the answer, the row and every byte of the array
 pub record Waited : Type 0 where
   pub answer : ℕ
   pub row : List Device
@@ -94,8 +95,10 @@ pub record AllWaited (o : Waited) (r : ℕ) (row′ : List Device) (array′ : L
 
 -- ---- a row that is passed by value: the first n of nine places; what stands behind them stays
 
+-- what a transaction promises of it
 abbrev pub Turns : ℕ → List Device → Shared → Answer → List Device → List ℕ → List ℕ → Type 0
 Turns n places o a places′ = Bused (record { answer = o .answer; row = o .row ++ drop n places; array = o .array; response = o .response }) a places′
 
+-- what a wait promises of it
 abbrev pub Passes : ℕ → List Device → Waited → ℕ → List Device → List ℕ → Type 0
 Passes n places o r places′ = AllWaited (record { answer = o .answer; row = o .row ++ drop n places; array = o .array }) r places′

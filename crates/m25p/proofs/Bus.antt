@@ -1,6 +1,6 @@
 -- What the C calls of a bus give, by the row's length and by what the bus answers; that each promise admits one outcome only; and what becomes of the row's bytes.
 -- Assumes nothing.
-use mathlib.Core.Path.{_≡_, refl, sym, ap, _∙_}
+use mathlib.Core.Path.{_≡_, refl, sym, ap, ap₂, _∙_}
 use mathlib.Core.Bool.{Bool, true, false, not}
 use mathlib.Core.List.{List, [], _∷_, _++_, append-nil, append-assoc}
 use Prim.Native.Nat.{ℕ, zero, suc, _+_, _-_, _*_, _/_, _%_, _≤_, _<_}
@@ -22,10 +22,12 @@ use Rattle.chip.specs.Events.{left}
 use Rattle.chip.proofs.Records.{wait-sound}
 use Rattle.chip.proofs.Rules.{answer-few, stays-sound}
 use Rattle.bus.specs.Bus.{bytesOf, sumOf, allSound, chipsIn, rowOf, at, nth}
+use Rattle.bus.specs.Runs.{asks, passes, next}
 use Rattle.bus.specs.Calls.{outOfRange, wholeNumber, waitNumber, busNumber, Shared, chosen, bused, Waited, allWait, busWaited, Turns, Passes}
 use Rattle.bus.proofs.Numbers.{out-above, wait-zero, bus-zero}
 use Rattle.bus.proofs.Chips.{chip-at, row-set}
 use Rattle.bus.proofs.Eight.{waited-length}
+use Rattle.bus.proofs.Theorems.{only-zero, only-zero-waits}
 use Rattle.m25p.specs.Calls.{packedAnswer, high}
 use Rattle.m25p.specs.Bus.{recordsIn, packedRow, busedC, BusedC, busWaitedC, BusWaitedC}
 use Rattle.m25p.proofs.Records.{records-count, sound-at, pack-long, packed-one, records-back}
@@ -91,7 +93,7 @@ module _ (row array : List ℕ) (t : ℕ) where
   wait-odd n e = rw (wait-odd-is n) (record { answer = e; bytes = refl; memory = refl })
 
   -- one that is: what the bus does with its records
-  pub wait-even : length row % 304 ≡ 0 → busWaitedC row array t ≡ busWaited (recordsIn row) array t
+  wait-even : length row % 304 ≡ 0 → busWaitedC row array t ≡ busWaited (recordsIn row) array t
   unfolding busWaitedC
   wait-even m = rw m
 
@@ -226,7 +228,7 @@ module _ (row array : List ℕ) (k : ℕ) (sent : List ℕ) (pulses w : ℕ) (re
   turn-odd n e = rw (turn-odd-is n) (record { answer = e; bytes = refl; memory = refl; line = refl })
 
   -- one that is: what the bus does with its records
-  pub turn-even : length row % 304 ≡ 0 → busedC row array k sent pulses w response ≡ bused (recordsIn row) array k sent pulses (high w) response
+  turn-even : length row % 304 ≡ 0 → busedC row array k sent pulses w response ≡ bused (recordsIn row) array k sent pulses (high w) response
   unfolding busedC
   turn-even m = rw m
 
@@ -298,30 +300,55 @@ pub bus-wait-one-outcome : {o : Waited} {row row′ row″ array′ array″ : L
 bus-wait-one-outcome p q = (p .answer ∙ sym (q .answer), p .bytes ∙ sym (q .bytes), p .memory ∙ sym (q .memory))
 
 module _ (row array : List ℕ) (t : ℕ) {r : ℕ} {row′ array′ : List ℕ} (b : BusWaitedC (busWaitedC row array t) row r row′ array′) where
-  -- THEOREM: after a wait that answers 0 the records read back from the row's bytes are those of the definition
-  pub wait-row-reads-back : busWaitedC row array t .answer ≡ 0 → recordsIn row′ ≡ busWaitedC row array t .row
-  wait-row-reads-back z =
-      let e = wait-even row array t (wait-zero-even (eqb (length row % 304) 0) refl z) in
+  abbrev ticked : Waited
+  ticked = busWaitedC row array t
+
+  -- what a wait that answers 0 writes, and that another writes nothing
+  wait-zero-reads : length row % 304 ≡ 0 → ticked .answer ≡ 0 → recordsIn row′ ≡ ticked .row
+  wait-zero-reads m z =
+      let e = wait-even row array t m in
       let s = waited-zero (recordsIn row) array t (sym (ap (λ (o : Waited). o .answer) e) ∙ z) .1 in
-      ap recordsIn (b .bytes ∙ ap (λ (n : ℕ). onZero n (packedRow (busWaitedC row array t .row)) row) z) ∙ records-back (busWaitedC row array t .row) (ap (λ (o : Waited). allSound (o .row)) e ∙ s)
+      ap recordsIn (b .bytes ∙ ap (λ (n : ℕ). onZero n (packedRow (ticked .row)) row) z) ∙ records-back (ticked .row) (ap (λ (o : Waited). allSound (o .row)) e ∙ s)
+
+  wait-row-kept : (ticked .answer ≡ 0 → ⊥) → row′ ≡ row
+  wait-row-kept n = b .bytes ∙ sym (other (ticked .answer) (packedRow (ticked .row)) row n)
+
+  -- THEOREM: whatever a wait answers, the records read back from the row's bytes are those of the definition
+  pub wait-row-reads-back : recordsIn row′ ≡ ticked .row
+  wait-row-reads-back = go (eqb (length row % 304) 0) refl (eqb (ticked .answer) 0) refl
     where
-      wait-zero-even : (c : Bool) → eqb (length row % 304) 0 ≡ c → busWaitedC row array t .answer ≡ 0 → length row % 304 ≡ 0
-      wait-zero-even true e z = eqb-true (length row % 304) 0 e
-      wait-zero-even false e z = let y = sym (ap (λ (o : Waited). o .answer) (wait-odd-is row array t (eqb-false (length row % 304) 0 e))) ∙ z in absurd (omega (arith, y))
+      go : (m : Bool) → eqb (length row % 304) 0 ≡ m → (a : Bool) → eqb (ticked .answer) 0 ≡ a → recordsIn row′ ≡ ticked .row
+      go true m true a = wait-zero-reads (eqb-true (length row % 304) 0 m) (eqb-true (ticked .answer) 0 a)
+      go true m false a =
+          let e = wait-even row array t (eqb-true (length row % 304) 0 m) in
+          let n = eqb-false (ticked .answer) 0 a in
+          ap recordsIn (wait-row-kept n) ∙ sym (ap (λ (o : Waited). o .row) e ∙ only-zero-waits (recordsIn row) array t (λ z. n (ap (λ (o : Waited). o .answer) e ∙ z)) .0)
+      go false m a q =
+          let e = wait-odd-is row array t (eqb-false (length row % 304) 0 m) in
+          ap recordsIn (wait-row-kept (λ z. let y = sym (ap (λ (o : Waited). o .answer) e) ∙ z in omega (arith, y))) ∙ sym (ap (λ (o : Waited). o .row) e)
+
+  -- THEOREM: on a row that is no 8, the call is a step of a run of the bus, as read from the bytes
+  pub wait-is-a-step : length row % 304 ≡ 0 → record { row = recordsIn row′; array = array′ } ≡ next (passes t) (record { row = recordsIn row; array = array })
+  wait-is-a-step m =
+      let e = wait-even row array t m in
+      ap₂ (λ (x : List Device) (y : List ℕ). record { row = x; array = y }) (wait-row-reads-back ∙ ap (λ (o : Waited). o .row) e) (b .memory ∙ ap (λ (o : Waited). o .array) e)
 
 module _ (row array : List ℕ) (k : ℕ) (sent : List ℕ) (pulses w : ℕ) (response : List ℕ) {r : ℕ} {row′ array′ response′ : List ℕ}
     (b : BusedC (busedC row array k sent pulses w response) row r row′ array′ response′) where
   abbrev out : Shared
   out = busedC row array k sent pulses w response
 
+  odd-number : (length row % 304 ≡ 0 → ⊥) → out .answer .number ≡ 0 → ⊥
+  odd-number n z = let y = sym (ap (λ (o : Shared). o .answer .number) (turn-odd-is row array k sent pulses w response n)) ∙ z in omega (arith, y)
+
   zero-even : out .answer .number ≡ 0 → length row % 304 ≡ 0
   zero-even z = go (eqb (length row % 304) 0) refl
     where
       go : (c : Bool) → eqb (length row % 304) 0 ≡ c → length row % 304 ≡ 0
       go true e = eqb-true (length row % 304) 0 e
-      go false e = let y = sym (ap (λ (o : Shared). o .answer .number) (turn-odd-is row array k sent pulses w response (eqb-false (length row % 304) 0 e))) ∙ z in absurd (omega (arith, y))
+      go false e = absurd (odd-number (eqb-false (length row % 304) 0 e) z)
 
-  -- an answer of 0: one record is another, and the row's bytes are the packings
+  -- an answer of 0: one record is another, and the row's bytes are the packings; with another they stay
   zero-set : out .answer .number ≡ 0 → OneSet (recordsIn row) k out
   zero-set z =
       let e = turn-even row array k sent pulses w response (zero-even z) in
@@ -331,11 +358,31 @@ module _ (row array : List ℕ) (k : ℕ) (sent : List ℕ) (pulses w : ℕ) (re
   zero-bytes : out .answer .number ≡ 0 → row′ ≡ packedRow (out .row)
   zero-bytes z = b .bytes ∙ ap (λ (n : ℕ). onZero n (packedRow (out .row)) row) z
 
-  -- THEOREM: after a transaction that answers 0 the records read back from the row's bytes are those of the definition
-  pub row-reads-back : out .answer .number ≡ 0 → recordsIn row′ ≡ out .row
-  row-reads-back z =
-      let s = zero-set z in
-      ap recordsIn (zero-bytes z) ∙ records-back (out .row) (ap allSound (s .row) ∙ sound-set (recordsIn row) k (s .device) (s .all) (s .device-sound))
+  row-kept : (out .answer .number ≡ 0 → ⊥) → row′ ≡ row
+  row-kept n = b .bytes ∙ sym (other (out .answer .number) (packedRow (out .row)) row n)
+
+  -- THEOREM: whatever a transaction answers, the records read back from the row's bytes are those of the definition
+  pub row-reads-back : recordsIn row′ ≡ out .row
+  row-reads-back = go (eqb (length row % 304) 0) refl (eqb (out .answer .number) 0) refl
+    where
+      go : (m : Bool) → eqb (length row % 304) 0 ≡ m → (a : Bool) → eqb (out .answer .number) 0 ≡ a → recordsIn row′ ≡ out .row
+      go true m true a =
+          let z = eqb-true (out .answer .number) 0 a in
+          let s = zero-set z in
+          ap recordsIn (zero-bytes z) ∙ records-back (out .row) (ap allSound (s .row) ∙ sound-set (recordsIn row) k (s .device) (s .all) (s .device-sound))
+      go true m false a =
+          let e = turn-even row array k sent pulses w response (eqb-true (length row % 304) 0 m) in
+          let n = eqb-false (out .answer .number) 0 a in
+          ap recordsIn (row-kept n) ∙ sym (ap (λ (o : Shared). o .row) e ∙ only-zero (recordsIn row) array k sent pulses (high w) response (λ z. n (ap (λ (o : Shared). o .answer .number) e ∙ z)))
+      go false m a q =
+          let n = eqb-false (length row % 304) 0 m in
+          ap recordsIn (row-kept (odd-number n)) ∙ sym (ap (λ (o : Shared). o .row) (turn-odd-is row array k sent pulses w response n))
+
+  -- THEOREM: on a row that is no 8, the call is a step of a run of the bus, as read from the bytes
+  pub transact-is-a-step : length row % 304 ≡ 0 → record { row = recordsIn row′; array = array′ } ≡ next (asks k sent pulses (high w) response) (record { row = recordsIn row; array = array })
+  transact-is-a-step m =
+      let e = turn-even row array k sent pulses w response m in
+      ap₂ (λ (x : List Device) (y : List ℕ). record { row = x; array = y }) (row-reads-back ∙ ap (λ (o : Shared). o .row) e) (b .memory ∙ ap (λ (o : Shared). o .array) e)
 
   -- THEOREM: whatever a transaction answers, every byte of the row before and behind the packing of the chosen chip stays
   pub others-bytes-stay : (take (k * 304) row′ ≡ take (k * 304) row) × (drop ((k + 1) * 304) row′ ≡ drop ((k + 1) * 304) row)
@@ -352,6 +399,4 @@ module _ (row array : List ℕ) (k : ℕ) (sent : List ℕ) (pulses w : ℕ) (re
           let l : length x ≡ k * 304 = length-take-le (k * 304) row (omega (arith, c, s .there)) in
           let m : length (x ++ packOf d) ≡ (k + 1) * 304 = length-append x (packOf d) ∙ (let p = pack-long d (s .device-sound) in omega (arith, l, p)) in
           (ap (take (k * 304)) e ∙ take-at x (packOf d ++ y) (k * 304) l, ap (drop ((k + 1) * 304)) (e ∙ sym (append-assoc x (packOf d) y)) ∙ drop-at (x ++ packOf d) y ((k + 1) * 304) m)
-      go (suc n) z =
-          let e : row′ ≡ row = b .bytes ∙ sym (other (out .answer .number) (packedRow (out .row)) row (λ y. let h = sym z ∙ y in omega (arith, h))) in
-          (ap (take (k * 304)) e, ap (drop ((k + 1) * 304)) e)
+      go (suc n) z = let e = row-kept (λ y. let h = sym z ∙ y in omega (arith, h)) in (ap (take (k * 304)) e, ap (drop ((k + 1) * 304)) e)

@@ -195,11 +195,6 @@ set-from (suc n) row (suc k) d h e s =
     ∙ ap₂ (λ (u v : List ℕ). u ++ (packOf d ++ v)) (sym (take-add 304 (k * 304) row) ∙ ap (λ (m : ℕ). take m row) a) (drop-drop ((k + 1) * 304) 304 row ∙ ap (λ (m : ℕ). drop m row) b))
 
 module _ (row : List ℕ) (whole : length row % 304 ≡ 0) (s : allSound (recordsIn row) ≡ true) where
-  -- a row of packings is the packings of its records
-  pub packed-back : packedRow (recordsIn row) ≡ row
-  unfolding recordsIn
-  packed-back = packed-from (length row / 304) row (omega (arith, whole)) s
-
   -- with another record at k the bytes of its packing alone are others
   pub packed-one : (k : ℕ) (d : Device) → k < length row / 304 → packedRow (set (recordsIn row) k d) ≡ take (k * 304) row ++ (packOf d ++ drop ((k + 1) * 304) row)
   unfolding recordsIn

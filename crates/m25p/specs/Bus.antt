@@ -55,6 +55,7 @@ busWaitedC row array t =
     onZero (rowAnswer (length row)) (busWaited (recordsIn row) array t)
     (record { answer = rowAnswer (length row); row = recordsIn row; array = array })
 
+-- what the call promises of its answer and of the bytes as they are handed back
 pub record BusWaitedC (o : Waited) (row : List ℕ) (r : ℕ) (row′ array′ : List ℕ) : Type 0 where
   pub answer : r ≡ packedAnswer (bare (o .answer))
   pub bytes : row′ ≡ rowBy (o .answer) (o .row) row

@@ -25,7 +25,7 @@ use Rattle.chip.specs.Events.{sends, waits, Reply}
 use Rattle.chip.specs.Worked.{bench, usual}
 use Rattle.bus.specs.Bus.{sumOf}
 use Rattle.bus.specs.Calls.{wholeNumber, waitNumber, busNumber, chosen, bused, busWaited}
-use Rattle.m25p.specs.Bus.{recordsIn, packedRow, rowAnswer, busedC, busWaitedC}
+use Rattle.m25p.specs.Bus.{recordsIn, packedRow, rowAnswer, rowBy, busedC, busWaitedC}
 use Rattle.told.specs.CCalls.{set-up, at-rest, writes, resettled}
 use Rattle.bus.specs.Runs as bus-runs
 use Rattle.bus.specs.Runs.{Bus, Call, asks, passes, runs, refusal, noneRefused, given}
@@ -142,9 +142,11 @@ pub record Rows : Type 0 where
   -- chip 0 is at rest and takes a write enable; chip 1 is busy and does not
   pub first : asked two 8192 0 (0x06 ∷ []) 0 1 ∷ asked two 8192 1 (0x06 ∷ []) 0 1 ∷ [] ≡ 0 ∷ 12 ∷ []
   pub enabled : packedRow (busedC two (replicate 8192 0xFF) 0 (0x06 ∷ []) 0 1 (0xAA ∷ []) .row) ≡ set-up ++ writes 0 1
+  -- only an answer of 0 changes the row's bytes: not the busy chip's 12
+  pub kept : rowBy 12 (busedC two (replicate 8192 0xFF) 1 (0x06 ∷ []) 0 1 (0xAA ∷ []) .row) two ≡ two
   -- one tick ends the settings write, and leaves the chip at rest as it is
   pub ended-both : packedRow (busWaitedC two (replicate 8192 0xFF) 1 .row) ≡ at-rest ++ resettled
 
 pub rows : Rows
 unfolding mapAt window stored sumAt memory-is.blank memory-is.filled memory-is.programmed memory-is.reached memory-is.landed figuresOf protectedOf sound latchAt moded latched settled remembering running started ended statusByte rowOf addressOf hostNumber inProtected asNeeded chipNumber decided verdictOf byRow heard heardRow driven lined drivingAt firstOf countOf noSlots noCycle pageCycle eraseCycle allCycle settingsCycle slotsSound cycleSound touched cycleOf missingOf missing missingAt pageOf ones onesIn bpIn turned outcomeOf transacted namedSound locksSound noLocks protectedAt protectedAny lockOf afterCycle finished waited timeNumber waitCall chosen bused busWaited wholeNumber waitNumber busNumber delivered zeroRecord frontOf packOf fieldsOf formed unpackAnswer unpackOf recordsIn busedC busWaitedC
-rows = record { lengths = refl; order = refl; waits-order = refl; first = refl; enabled = refl; ended-both = refl }
+rows = record { lengths = refl; order = refl; waits-order = refl; first = refl; enabled = refl; kept = refl; ended-both = refl }
