@@ -1,6 +1,8 @@
 //! A row of chips on one bus: each does what it does alone, whatever stands beside it; time passes for all; and what is
 //! refused, in which order, with every byte as it was.
 
+use std::panic::{catch_unwind, AssertUnwindSafe};
+
 use m25p::bus::MOST_CHIPS;
 use m25p::{calls, pins, Answer, Bus, Chip, Cycle, Durations, Part, MASK_BYTES, RECORD_BYTES};
 
@@ -154,7 +156,7 @@ fn one_wait_for_all() {
         [None, None, None, Some(Cycle::BulkErase)]
     );
     assert_eq!((bus.array(3)[4_095], bus.record(3)[8]), (0x00, 4 * 20 - 2));
-    bus.wait(u32::MAX);
+    bus.wait(1 << 31);
     assert_eq!([0, 1, 2, 3].map(|chip| bus.array(chip)[4_095]), [0x00, 0x00, 0xFF, 0xFF]);
     assert_eq!((bus.cycle(3), &resting[..]), (None, &bus.record(2)[..]));
 }
@@ -198,6 +200,28 @@ fn refused_transactions() {
     assert_eq!(bus.transact(1, &[0x05; 65_536], 8, true).answer, Answer::Pulses);
     assert!(bus == before);
     assert_eq!(bus.transact(1, &[0x05; 65_536], 7, true).answer, Answer::Executed);
+}
+
+/// All but a transaction panics for a chip that is not in the row, and the row stays as it was.
+#[test]
+fn chips_that_are_not_there() {
+    let before = delivered(&[Part::Bench, Part::M25p10a]);
+    let uses: [fn(&mut Bus); 9] = [
+        |bus| bus.power_up(2),
+        |bus| bus.loss(2, &[0; MASK_BYTES], true),
+        |bus| _ = bus.pins(2, &[]),
+        |bus| _ = bus.batch(2, &[]),
+        |bus| _ = bus.cycle(2),
+        |bus| _ = bus.record(2),
+        |bus| _ = bus.array(2),
+        |bus| _ = bus.array_mut(2),
+        |bus| _ = bus.array_range(2),
+    ];
+    for (i, used) in uses.into_iter().enumerate() {
+        let mut bus = before.clone();
+        let end = catch_unwind(AssertUnwindSafe(|| used(&mut bus)));
+        assert!(end.is_err() && bus == before, "use {i}");
+    }
 }
 
 /// The buffers of a call on slices.
