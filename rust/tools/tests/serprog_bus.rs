@@ -8,6 +8,7 @@ mod blocks;
 mod told;
 
 use std::ffi::OsString;
+use std::os::unix::ffi::OsStringExt;
 use std::path::PathBuf;
 
 use blocks::array;
@@ -61,6 +62,9 @@ fn refused_options() {
     ] {
         assert_eq!(parsed(words), Err(sentence.to_string()), "{words}");
     }
+    let odd = OsString::from_vec(b"M25P40,M25P\xFF".to_vec());
+    let sentence = format!("--part is {known}, not M25P\u{FFFD}.");
+    assert_eq!(Options::parse(["--part".into(), odd]), Err(sentence), "no text");
     for (images, times) in [("--image a", "once"), ("--image a --image b --image c", "3 times")] {
         let sentence = format!(
             "--image is given {times} with 2 chips; it is given for each of them, in their order, or not at all."
@@ -104,8 +108,8 @@ fn selected_chip_alone() {
     }
 }
 
-/// Power is lost in a cycle of the selected chip, the page of a missing erase is within its part, and a cycle that runs
-/// at the end is completed.
+/// Power is lost in a cycle of the selected chip, counted once whatever comes while it runs; the page of a missing erase
+/// is within its part; and a cycle that runs at the end is completed.
 #[test]
 fn losses_and_warnings_of_the_selected_chip() {
     let parts = vec![Part::M25p128, Part::M25p10a];
@@ -118,6 +122,7 @@ fn losses_and_warnings_of_the_selected_chip() {
     for sent in [vec![0x02, 0xFE, 0x12, 0x34, 0xFF], vec![0xD8, 0xFE, 0x81, 0x23]] {
         board.operate(vec![0x06], 0);
         board.operate(sent, 0);
+        board.operate(vec![0x05], 1);
         board.delay(2_000);
     }
     let lines = "An erase was missing: the program in page 001200 wants 4 bits 1 that are 0. Further ones are not \

@@ -124,6 +124,12 @@ fn files_that_do_not_fit() {
              the M25PE40; the part has 131072, or 133632 in blocks.\n"
         )
     );
+    let older = refusal(
+        &[&["--part", "M25P40,M25P10"], &words(&[c.clone(), a.clone()])[..]].concat(),
+        None,
+    );
+    let start = format!("Chip 1, the M25P10: The image {raw} has 524288 bytes, ");
+    assert!(older.starts_with(&start), "{older}");
     let missing = refused_with(&paths, 2, &none);
     let start = format!("Chip 2, the M25PE40: The image {} can't be read: ", none.display());
     assert!(missing.starts_with(&start), "{missing}");
