@@ -13,7 +13,7 @@ mod server;
 pub use board::Board;
 pub use image::Image;
 pub use images::Images;
-pub use options::{Options, USAGE};
+pub use options::{Options, KNOWN, USAGE};
 pub use parts::PARTS;
 pub use server::Server;
 

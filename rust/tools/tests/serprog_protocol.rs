@@ -250,6 +250,14 @@ fn parsed(line: &str) -> Result<Options, String> {
     Options::parse(line.split(' ').filter(|word| !word.is_empty()).map(OsString::from))
 }
 
+/// The usage tells of each option, and of no other.
+#[test]
+fn usage() {
+    let words = USAGE.lines().filter_map(|line| line.strip_prefix("  ")?.split(' ').next());
+    let told: Vec<&str> = words.filter(|word| word.starts_with("--")).collect();
+    assert_eq!(told, KNOWN);
+}
+
 #[test]
 fn options() {
     for (name, part) in PARTS {

@@ -166,7 +166,8 @@ fn image_count(chips: usize, images: usize) -> String {
     )
 }
 
-const KNOWN: [&str; 16] = [
+/// Every option.
+pub const KNOWN: [&str; 16] = [
     "--part",
     "--select",
     "--image",
