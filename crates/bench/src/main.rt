@@ -1,4 +1,5 @@
 // The bench program: it reads lines, hands each to the bench part, and prints the answers. What a line asks and how an answer is printed stands in `script`.
+#![tactic(auto)]
 use device::Device;
 use script::Command;
 use slices::{front, least};

@@ -1,4 +1,5 @@
 // The device record: its changes, when it is sound, and its status byte.
+#![tactic(auto)]
 ghost use Rattle.std.specs.Prelude.{◌≡◌};
 ghost use Rattle.device.specs.Device.{latch_at, moded, latched, settled, remembering, locked, running, started, ended, zero_record, delivered, ranged_of, mode_sound, sound, is_busy, is_deep, status_byte};
 

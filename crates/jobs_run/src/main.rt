@@ -1,4 +1,5 @@
 // Runs lists of jobs on the bench part, neighbours swapped and not, and writes the answers with the bits missing, whether the arrays end the same, and byte 16 of each; then a list on an M25PE40 with a locked sector.
+#![tactic(auto)]
 use device::Device;
 
 // One transaction.

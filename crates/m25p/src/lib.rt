@@ -1,4 +1,5 @@
 // The C calls: delivery, transaction, wait, power-up, power loss, raw pins, a batch and a report over the packed bytes of a record; images; and a bus over the packed bytes of a row of records.
+#![tactic(auto)]
 ghost use Rattle.std.specs.Prelude.{◌≡◌, ◌≤◌, ◌<◌};
 ghost use Rattle.memory.specs.Missing.{most_missing};
 ghost use Rattle.slices.specs.Chosen.{on_zero};

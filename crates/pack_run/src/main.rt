@@ -1,4 +1,5 @@
 // Packs and unpacks records of each part and mode, and records and bytes that are refused, and writes the answers and the bytes.
+#![tactic(auto)]
 use device::cycle::{Cycle, Kind};
 use device::locks::REGISTERS;
 use device::packing::LENGTH;

@@ -1,4 +1,5 @@
 // What the programs of the gate print: bytes, numbers, and one of two texts; and whether bytes are all the same.
+#![tactic(auto)]
 ghost use Rattle.std.specs.Prelude.{◌≡◌};
 
 // A byte as a number to print.

@@ -1,4 +1,6 @@
 // Total functions on slices and numbers. Nothing of flash.
+#![tactic(auto)]
+
 ghost use Rattle.std.specs.Prelude.{◌≡◌, cond, ◌+◌, ◌*◌, ◌%◌, min, get_or, take};
 ghost use Rattle.slices.specs.Changed.{map_at, window, put, stored};
 ghost use Rattle.slices.specs.Bytes.{same_bytes, word, long, word_at, long_at};

@@ -8,11 +8,10 @@ use borrow.Author.Tests.{leb-true, leb-false}
 use lib.Dec.{leb}
 use lib.ListN.{length, take}
 use lib.Seq.{length-take-le, take_all}
-use borrow.Author.Rules.{rules}
-use Rattle.slices.proofs.front.Statement.{statement}
-use Rattle.slices.proofs.front.Tie as tie
+use Rattle.slices.proofs.front.Goals as goal
 
 -- the first n bytes of a list, which it may not have
+
 front-is : (xs : List ℕ) (n end : ℕ) → end ≡ min n (length xs) → take end xs ≡ take n xs
 front-is xs n end e = go (leb n (length xs)) refl
   where
@@ -20,11 +19,8 @@ front-is xs n end e = go (leb n (length xs)) refl
     go true q = let t = leb-true n (length xs) q in ap (λ (k : ℕ). take k xs) (let z : end ≡ n = omega arith in z)
     go false q = let t = leb-false n (length xs) q in take_all end xs (omega arith) ∙ sym (take_all n xs (omega arith))
 
-slice-aggregate-result : tie.Need-slice-aggregate-result
-slice-aggregate-result c = sym (length-take-le _ _ (omega arith))
+pub slice_bounds-result-end : goal.slice_bounds-result-end
+slice_bounds-result-end c = sym (length-take-le _ _ (omega arith))
 
-returns : tie.Need-returns
-returns c = front-is c.before.before.before.args.s.now c.before.before.before.args.n c.before.least.result c.before.least.ensures
-
-pub front-spec : {M : Type 1} → statement M
-front-spec = tie.close (tie.spec (λ c κs. search rules) slice-aggregate-result returns)
+pub returns : goal.returns
+returns c = front-is c.args.s.now c.args.n c.least-end.result c.least-end.ensures
