@@ -1,5 +1,6 @@
 // The seven parts, each a type whose constants are its figures, and how many sectors BP protects.
 #![tactic(auto)]
+
 ghost use Rattle.std.specs.Prelude.{◌≡◌};
 ghost use Rattle.parts.specs.Parts.{bench, m25p10a, m25p40, m25p32, m25p128, m25p10a_older, m25pe40, figures_of, known_part};
 ghost use Rattle.parts.specs.Protected.{protected_of};
