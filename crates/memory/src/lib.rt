@@ -1,5 +1,6 @@
 // The memory of a part: the page latch, programming and erasing, whole or cut, and reading. Every function is total: a byte that is not there is not changed.
 #![tactic(auto)]
+
 ghost use Rattle.std.specs.Prelude.{◌≡◌, ◌+◌, ◌≤◌, length, get_or};
 ghost use Rattle.std.specs.Int.Count.{ones};
 ghost use Rattle.slices.specs.Changed.{map_at, window, put, sum_at};

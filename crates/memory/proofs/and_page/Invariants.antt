@@ -1,0 +1,12 @@
+use mathlib.Core.Path.{◌≡◌}
+use Prim.Native.Nat.{◌-◌, ◌≤◌}
+use lib.ListN.{length}
+use Rattle.slices.specs.Changed.{map_at, window}
+use Rattle.memory.specs.Memory.{anded}
+use Rattle.memory.proofs.and_page.Given as goal
+
+abbrev pub invariant-loop-i : goal.invariant-loop-i
+invariant-loop-i l = (l.i ≤ length l.initial.page) × (length l.page ≡ length l.initial.page) × (l.page ≡ map_at (window 0 l.i (anded l.slots)) l.initial.page)
+
+abbrev pub decreases-loop-i : goal.decreases-loop-i
+decreases-loop-i l = length l.initial.page - l.i
