@@ -1,7 +1,7 @@
-// What the programs of the gate print: bytes, numbers, and one of two texts; and whether bytes are all the same.
+// What the programs of the gate print: bytes, numbers, and one of two texts; and whether bytes are all the same, or the same as others.
 #![tactic(auto)]
 
-ghost use Rattle.std.specs.Prelude.{◌≡◌};
+ghost use Rattle.std.specs.Prelude.{◌≡◌, true};
 
 use std::io;
 
@@ -32,6 +32,14 @@ pub fn all_are(s: &[u8], from: usize, v: u8) -> bool {
         i += 1;
     }
     true
+}
+
+// Whether two runs of bytes are the same.
+pub fn same(a: &[u8], b: &[u8]) -> bool
+    ensures yes { result ≡ true → a.now ≡ b.now }
+    ensures no { a.now ≡ b.now → result ≡ true }
+{
+    a == b
 }
 
 // Prints the first text where a test holds, else the second.
