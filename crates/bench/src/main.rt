@@ -7,7 +7,7 @@ use slices::{front, least};
 use std::io::{self, Read};
 
 // What stands between two bytes of input: the chip, the lines answered, the characters of the line so far, and how much text waits to be written.
-#[derive(Drop)]
+#[derive(Clone, Copy)]
 pub struct State {
     pub device: Device,
     pub lines: u64,
@@ -16,7 +16,7 @@ pub struct State {
 }
 
 // What a line did: its answer, how many response bytes there are, and the chip afterwards.
-#[derive(Drop)]
+#[derive(Clone, Copy)]
 pub struct Acted {
     pub answer: u8,
     pub count: usize,
@@ -24,7 +24,7 @@ pub struct Acted {
 }
 
 // What a read brought: whether there may be more, and what stands then.
-#[derive(Drop)]
+#[derive(Clone, Copy)]
 struct Input {
     more: bool,
     state: State,

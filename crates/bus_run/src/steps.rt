@@ -10,7 +10,7 @@ use std::io;
 const LINE: usize = 6;
 
 // What is asked of how many chips: a wait of so many ticks, or a transaction with a chip, of `count` bytes and so many further pulses, with room for a response.
-#[derive(Drop)]
+#[derive(Clone, Copy)]
 pub struct Step {
     pub chips: usize,
     pub waits: bool,
@@ -21,7 +21,7 @@ pub struct Step {
 }
 
 // What an entry answered, with the row and the response as they are then.
-#[derive(Drop)]
+#[derive(Clone, Copy)]
 pub struct Told {
     pub answer: Answer,
     pub row: [Device; PLACES],
@@ -29,7 +29,7 @@ pub struct Told {
 }
 
 // The row of each entry, and whether all was the same so far.
-#[derive(Drop)]
+#[derive(Clone, Copy)]
 pub struct Two {
     pub lent: [Device; PLACES],
     pub plain: [Device; PLACES],

@@ -9,6 +9,8 @@ mod refused;
 mod steps;
 mod text;
 
+use std::io;
+
 // A case on the bench part: delivered with durations 3, 5, 9, 2, then the latch set.
 fn bench(rt: &impl Print, name: &[u8], script: &[u8]) -> io::Result<()> {
     let mut a = [0; 4096];
@@ -127,7 +129,7 @@ fn instructions(rt: &impl Print) -> io::Result<()> {
     // a read over mixed bytes rolls over from the last byte to 0, by 03 from byte 4 on and by 0B from byte 5 on
     bench(
         rt,
-        b"roll_over",
+        b"roll-over",
         b"x 1 0 02000FFE112233;w 3;x 1 0 06;x 1 0 020000004455;w 3;x 1 0 03000FFE0000000000;x 1 0 0B000FFE000000000000",
     )?;
     // an address is taken modulo the part's size

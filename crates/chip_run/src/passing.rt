@@ -4,7 +4,7 @@ use device::{Checked, Device};
 use std::io;
 
 // What time and power do: ticks go by, a power-up, a power loss with a byte in each place of the mask and yes or no.
-#[derive(Drop)]
+#[derive(Clone, Copy)]
 pub enum Passing {
     Wait(u8),
     PowerUp,

@@ -21,7 +21,7 @@ use slices::byte_at;
 use std::io;
 
 // The record of each entry, and whether all was the same so far.
-#[derive(Drop)]
+#[derive(Clone, Copy)]
 pub struct Two {
     pub by_value: Device,
     pub lent: Device,
