@@ -1,5 +1,6 @@
 // A report over the week's batches: a batch carried out, and what its transactions did added to running totals.
 #![tactic(auto)]
+
 ghost use Rattle.std.specs.Prelude.{◌≡◌, true, false, [], ◌∷◌, ◌≤◌, ◌<◌, ◌+◌, length, get_or};
 ghost use Rattle.parts.specs.Parts.{figures_of};
 ghost use Rattle.device.specs.Device.{sound};
