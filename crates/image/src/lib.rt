@@ -1,5 +1,6 @@
 // Chip images: an array as blocks of 512 bytes with sums, written, read and salvaged.
 #![tactic(auto)]
+
 ghost use Rattle.std.specs.Prelude.{◌≡◌, ◌+◌, ◌*◌, ◌<◌, ◌≤◌, length, get_or, drop, slice_index_or};
 ghost use Rattle.slices.specs.Changed.{map_at};
 ghost use Rattle.image.specs.Sums.{sums_of};
