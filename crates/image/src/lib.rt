@@ -117,6 +117,7 @@ fn reason(place: usize, block: &[u8]) -> u8
 }
 
 // A bad block gets FF for its bytes of the array and a right head; a good one stays.
+#[tactic(auto, using(crate::proofs::Blocks::kept, crate::proofs::Blocks::anew))]
 fn salvage_block(block: &mut [u8], place: usize) -> u8
     requires { length block.old ≡ 512 }
     ensures { BlockSalvaged place block.old result block.new }
