@@ -1,5 +1,5 @@
 -- `image::first_bad` meets its contract.
-use Rattle.std.proofs.Common.{◌≡◌, ℕ, ◌+◌, min, List, length, get_or, sym, refl, ap, ◌∙◌, add-one, arith, rules}
+use Rattle.std.proofs.Common.{◌≡◌, ◌+◌, min, length, sym, refl, ap, ◌∙◌, add-one, arith, rules}
 use Rattle.image.specs.Images.{reason_at, bad_places}
 use Rattle.image.proofs.Parts.{part_cut}
 use Rattle.image.proofs.Lists.{past-good, first-here}
@@ -24,10 +24,3 @@ loop-place-preserved c =
     let whole : l.a + 512 ≡ min (l.a + 512) (length x.image.now) = omega arith in
     let r : c.reason.result ≡ reason_at x.image.now l.place = c.reason.ensures ∙ rw (part_cut 512 l.place l.a (l.a + 512) x.image.now l.invariant.1 whole) in
     (search rules, search rules, ap (bad_places x.image.now) (add-one l.place) ∙ past-good x.image.now l.place (sym r ∙ c.if-reason-ne0.false) ∙ l.invariant.2)
-
-pub returns : goal.returns
-returns c =
-    let l = c.loop-place in
-    let x = c.args in
-    let z : l.place ≡ x.count = omega arith in
-    z ∙ sym (ap (λ (t : List ℕ). get_or t 0 x.count) (ap (bad_places x.image.now) (sym z) ∙ l.invariant.2))

@@ -1,3 +1,4 @@
+-- The characters passed and those to come give the whole.
 use mathlib.Core.Path.{◌≡◌}
 use mathlib.Core.Bool.{◌&&◌}
 use Prim.Native.Nat.{◌≤◌, ◌-◌}

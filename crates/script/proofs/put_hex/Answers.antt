@@ -2,7 +2,6 @@
 use Prim.Native.Nat.{◌<◌}
 use native.Mathlib.Omega.{arith}
 use lib.ListN.{length}
-use lib.Seq.{take_all}
 use Rattle.script.proofs.Printing.{printed-none, printed-then, hex-next}
 use borrow.Author.Rules.{rules}
 use Rattle.script.proofs.put_hex.Goals as goal
@@ -16,9 +15,3 @@ loop-i-preserved c =
     let l = c.loop-i in
     let h : l.i < length bytes = omega arith in
     (omega arith, search rules, rw (hex-next bytes l.i h) (printed-then l.invariant.2 c.put_byte-next.ensures))
-
-pub returns : goal.returns
-returns c =
-    let bytes = c.args.bytes.now in
-    let l = c.loop-i in
-    rw (take_all l.i bytes (omega arith)) at l.invariant.2
