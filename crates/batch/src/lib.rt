@@ -54,7 +54,7 @@ fn room(item: &[u8]) -> usize
 }
 
 // What a first pass over the items finds.
-#[derive(Drop)]
+#[derive(Clone, Copy)]
 struct Sizes {
     good: bool,
     room: usize,
@@ -109,7 +109,7 @@ fn carry_one(device: Device, array: &mut [u8], item: &[u8], response: &mut [u8])
 }
 
 // A record after the items, and the bits missing in them.
-#[derive(Drop)]
+#[derive(Clone, Copy)]
 struct Tally {
     device: Device,
     missing: u64,

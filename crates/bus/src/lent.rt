@@ -10,7 +10,7 @@ use chip::{Answer, Done};
 use device::Device;
 
 // A wait's answer, and the record for each of eight places.
-#[derive(Drop)]
+#[derive(Clone, Copy)]
 struct Eight {
     answer: u8,
     d0: Device,

@@ -17,14 +17,14 @@ use parts::Figures;
 pub const PLACES: usize = 9;
 
 // A transaction's answer, and the row as it is then.
-#[derive(Drop)]
+#[derive(Clone, Copy)]
 pub struct Turned {
     pub answer: Answer,
     pub row: [Device; PLACES],
 }
 
 // A wait's answer, and the row as it is then.
-#[derive(Drop)]
+#[derive(Clone, Copy)]
 pub struct Passed {
     pub answer: u8,
     pub row: [Device; PLACES],

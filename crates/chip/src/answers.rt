@@ -11,7 +11,7 @@ use device::{Device, is_busy, is_deep};
 use parts::Figures;
 
 // What becomes of a transaction: refused by the host side, ignored by the chip, each with its number, or executed.
-#[derive(Drop)]
+#[derive(Clone, Copy)]
 pub enum Verdict {
     Refused(u8),
     Ignored(u8),

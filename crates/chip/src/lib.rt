@@ -23,7 +23,7 @@ use table::Instruction;
 pub const LONGEST: usize = 65_536;
 
 // An answer: its number, the first driven position and the driven count; and the bits that a program wanted 1 and the array had 0.
-#[derive(Drop)]
+#[derive(Clone, Copy)]
 pub struct Answer {
     pub number: u8,
     pub first: u32,
@@ -32,7 +32,7 @@ pub struct Answer {
 }
 
 // A transaction's answer, and the next record.
-#[derive(Drop)]
+#[derive(Clone, Copy)]
 pub struct Done {
     pub answer: Answer,
     pub device: Device,

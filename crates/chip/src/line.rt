@@ -37,7 +37,7 @@ fn put_driven(how: Drive, figures: Figures, device: Device, array: &[u8], at: u3
 }
 
 // Where something is driven, of n bytes: the first place, and how many.
-#[derive(Drop)]
+#[derive(Clone, Copy)]
 pub struct Span {
     pub first: usize,
     pub count: usize,
@@ -142,7 +142,7 @@ fn array_byte(array: &[u8], i: usize) -> u8
 }
 
 // What the chip does with the line during one byte; `byte` is 0 where nothing is driven.
-#[derive(Drop)]
+#[derive(Clone, Copy)]
 pub struct LineByte {
     pub driven: bool,
     pub byte: u8,

@@ -8,7 +8,7 @@ use device::cycle::Kind;
 use parts::Figures;
 
 // What an instruction does: keep the record, set or reset the latch, start a cycle, go to deep power-down, leave it, write a lock register.
-#[derive(Drop)]
+#[derive(Clone, Copy)]
 pub enum Turn {
     Keep,
     Enable,
@@ -20,7 +20,7 @@ pub enum Turn {
 }
 
 // What an instruction drives.
-#[derive(Drop)]
+#[derive(Clone, Copy)]
 pub enum Drive {
     Nothing,
     Identification,
@@ -31,7 +31,7 @@ pub enum Drive {
 }
 
 // A row: what is needed (n from least to most, no further pulses, the latch), whether it is taken while busy and in deep power-down, what it does, what it drives from which byte on.
-#[derive(Drop)]
+#[derive(Clone, Copy)]
 pub struct Row {
     pub known: bool,
     pub least: usize,
@@ -197,7 +197,7 @@ pub(crate) fn address(figures: Figures, sent: &[u8]) -> u32
 }
 
 // The instruction of a transaction: the part's figures, the row of its first byte, its address.
-#[derive(Drop)]
+#[derive(Clone, Copy)]
 pub struct Instruction {
     pub figures: Figures,
     pub row: Row,

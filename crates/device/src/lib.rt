@@ -1,5 +1,6 @@
 // The device record: its changes, when it is sound, and its status byte.
 #![tactic(auto)]
+
 ghost use Rattle.std.specs.Prelude.{◌≡◌};
 ghost use Rattle.device.specs.Device.{latch_at, moded, latched, settled, remembering, locked, running, started, ended, zero_record, delivered, ranged_of, mode_sound, sound, is_busy, is_deep, status_byte};
 
@@ -19,7 +20,7 @@ use cycle::{Cycle, same};
 use locks::{REGISTERS, locks_sound};
 
 // What the chip is doing: nothing, a cycle with so many ticks left, or deep power-down.
-#[derive(Drop)]
+#[derive(Clone, Copy)]
 pub enum Mode {
     Standby,
     Busy(u32),
@@ -27,7 +28,7 @@ pub enum Mode {
 }
 
 // A chip between two transactions. The four after the mode are how many ticks each kind of cycle takes; then the cycle that runs, and the lock register of each sector of an M25PE part, zero on the others.
-#[derive(Drop)]
+#[derive(Clone, Copy)]
 pub struct Device {
     pub part: u8,
     pub bp: u8,
@@ -43,7 +44,7 @@ pub struct Device {
 }
 
 // The answer of a call that checks its record, and the record handed back.
-#[derive(Drop)]
+#[derive(Clone, Copy)]
 pub struct Checked {
     pub answer: u8,
     pub device: Device,

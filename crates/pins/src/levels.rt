@@ -4,7 +4,7 @@ ghost use Rattle.pins.specs.Pins.{levels_of, on_select, changes, takes, moves, e
 ghost use Rattle.pins.specs.Counted.{pins_of, selected, held_after};
 
 // The five levels of a sample.
-#[derive(Drop)]
+#[derive(Clone, Copy)]
 pub struct Levels {
     pub select: bool,
     pub clock: bool,

@@ -90,7 +90,7 @@ fn run_number(device: Device, array: usize, samples: &[u8], output: usize) -> u8
 }
 
 // A record after transactions, and the bits missing in them.
-#[derive(Drop)]
+#[derive(Clone, Copy)]
 struct Tally {
     device: Device,
     missing: u32,

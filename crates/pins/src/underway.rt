@@ -7,7 +7,7 @@ use crate::levels::Levels;
 use device::Device;
 
 // Whole bytes, further pulses and the register that the data is shifted into; whether a byte is driven after the whole bytes and which; the bit that shows since the last fall of the clock, 2 for none.
-#[derive(Drop)]
+#[derive(Clone, Copy)]
 pub struct Underway {
     pub whole: usize,
     pub pulses: u32,
