@@ -1,7 +1,7 @@
 /* first.c - a first program: deliver the bench part, identify it, program it, wait, and read it back; then
  * program it once more without an erase, hear that one was missing, and lose power in mid-program.
  *
- *   rt staticlib m25p
+ *   ./archive
  *   cc -O2 -Iinclude examples/first.c target/staticlib/libm25p.a -o target/first && target/first
  *
  * The archive is for x86-64, and so are these commands. docs/C-CALLS.md has those for another processor.

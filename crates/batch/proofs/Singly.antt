@@ -33,6 +33,8 @@ single-is (loses mask told) c r next g t s = absurd s
 -- all of them, in order
 singly-is : (es : List Event) (c : Chip) (rs : List Reply) (end : Chip) → Good c → AllFit es → Singly es c rs end → (rs ≡ story es c) × (end ≡ run es c)
 singly-is [] c [] end g t (none _) = (refl, refl)
+singly-is [] c (r ∷ rs) end g t s = elim s [ ]
+singly-is (e ∷ es) c [] end g t s = elim s [ ]
 singly-is (e ∷ es) c (r ∷ rs) end g t (more _ _ _ _ _ next _ s ss) =
     let p = single-is e c r next g t.0 s in
     let n : Good next = rw p.1 (after-good e c g) in

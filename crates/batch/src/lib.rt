@@ -1,5 +1,6 @@
 // A day's transactions in one call: items in bytes, carried out in order.
 #![tactic(auto)]
+
 ghost use Rattle.std.specs.Prelude.{◌≡◌, ◌+◌, ◌≤◌, min, true, length};
 ghost use Rattle.device.specs.Chip.{chip};
 ghost use Rattle.chip.specs.Events.{Good};

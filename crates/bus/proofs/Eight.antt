@@ -47,6 +47,20 @@ round_is (a ∷ b ∷ c ∷ d ∷ e ∷ f ∷ g ∷ []) h l = refl
 round_is (a ∷ b ∷ c ∷ d ∷ e ∷ f ∷ g ∷ k ∷ []) h l = refl
 round_is (a ∷ b ∷ c ∷ d ∷ e ∷ f ∷ g ∷ k ∷ x ∷ ds) h l = absurd (omega arith)
 
+-- the same at any values past the row's end: none of the places is there
+pub round-any : (ds : List Device) (d0 d1 d2 d3 d4 d5 d6 d7 : Device) → 0 < length ds → length ds ≤ 8
+    → take (length ds) (eight (get_or ds (0 % length ds) d0) (get_or ds (1 % length ds) d1) (get_or ds (2 % length ds) d2) (get_or ds (3 % length ds) d3) (get_or ds (4 % length ds) d4) (get_or ds (5 % length ds) d5) (get_or ds (6 % length ds) d6) (get_or ds (7 % length ds) d7)) ≡ ds
+round-any [] d0 d1 d2 d3 d4 d5 d6 d7 h l = absurd (omega arith)
+round-any (a ∷ []) d0 d1 d2 d3 d4 d5 d6 d7 h l = refl
+round-any (a ∷ b ∷ []) d0 d1 d2 d3 d4 d5 d6 d7 h l = refl
+round-any (a ∷ b ∷ c ∷ []) d0 d1 d2 d3 d4 d5 d6 d7 h l = refl
+round-any (a ∷ b ∷ c ∷ d ∷ []) d0 d1 d2 d3 d4 d5 d6 d7 h l = refl
+round-any (a ∷ b ∷ c ∷ d ∷ e ∷ []) d0 d1 d2 d3 d4 d5 d6 d7 h l = refl
+round-any (a ∷ b ∷ c ∷ d ∷ e ∷ f ∷ []) d0 d1 d2 d3 d4 d5 d6 d7 h l = refl
+round-any (a ∷ b ∷ c ∷ d ∷ e ∷ f ∷ g ∷ []) d0 d1 d2 d3 d4 d5 d6 d7 h l = refl
+round-any (a ∷ b ∷ c ∷ d ∷ e ∷ f ∷ g ∷ k ∷ []) d0 d1 d2 d3 d4 d5 d6 d7 h l = refl
+round-any (a ∷ b ∷ c ∷ d ∷ e ∷ f ∷ g ∷ k ∷ x ∷ ds) d0 d1 d2 d3 d4 d5 d6 d7 h l = absurd (omega arith)
+
 -- a row where the first i of eight were stored round it
 abbrev pub storing : List Device → ℕ → List Device → ℕ → List Device
 storing ds m xs zero = ds

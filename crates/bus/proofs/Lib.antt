@@ -5,8 +5,6 @@ pub mod Chips
 pub mod Turns
 pub mod Waits
 pub mod Eight
-pub mod Places
-pub mod Count
 pub mod Whole
 pub mod Runs
 pub mod Theorems

@@ -1,5 +1,6 @@
 // Several chips on one bus: a row of records beside one array that holds the chips' bytes in row order.
 #![tactic(auto)]
+
 ghost use Rattle.std.specs.Prelude.{◌≡◌, true, ◌≤◌, ◌<◌, length, take, drop};
 ghost use Rattle.chip.specs.Outcome.{Meets};
 ghost use Rattle.bus.specs.Bus.{bytes_of, sum_of, all_sound};

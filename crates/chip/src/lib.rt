@@ -1,5 +1,6 @@
 // The chip: a transaction on a record, a lent array and a lent response; delivery; and the entry that takes the record lent.
 #![tactic(auto)]
+
 ghost use Rattle.std.specs.Prelude.{◌≡◌, ◌≤◌, length};
 ghost use Rattle.parts.specs.Parts.{figures_of};
 ghost use Rattle.chip.specs.Table.{longest, sector_in, instruction_in};

@@ -1,5 +1,6 @@
 // Demand 3: one job as a call.
 #![tactic(auto)]
+
 ghost use Rattle.std.specs.Prelude.{◌≡◌, max};
 ghost use Rattle.jobs.specs.Jobs.{longest_cycle};
 ghost use Rattle.jobs.specs.Call.{Jobbed, alone};

@@ -1,5 +1,6 @@
-// The C calls: delivery, transaction, wait, power-up, power loss, raw pins, a batch and a report over the packed bytes of a record; images; and a bus over the packed bytes of a row of records.
+// What the C calls do: delivery, transaction, wait, power-up, power loss, raw pins, a batch and a report over the packed bytes of a record; images; and a bus over the packed bytes of a row of records.
 #![tactic(auto)]
+
 ghost use Rattle.std.specs.Prelude.{◌≡◌, ◌≤◌, ◌<◌};
 ghost use Rattle.memory.specs.Missing.{most_missing};
 ghost use Rattle.slices.specs.Chosen.{on_zero};
@@ -47,8 +48,7 @@ fn store(number: u8, next: Device, packed: &mut [u8])
 }
 
 // Delivers a part: the packed record is written and the array becomes FF.
-#[unsafe(no_mangle)]
-pub extern "C" fn m25p_deliver(
+pub fn m25p_deliver(
     packed: &mut [u8],
     part: u32,
     array: &mut [u8],
@@ -68,8 +68,7 @@ pub extern "C" fn m25p_deliver(
 }
 
 // One transaction: W is low for 0, else high.
-#[unsafe(no_mangle)]
-pub extern "C" fn m25p_transact(
+pub fn m25p_transact(
     packed: &mut [u8],
     array: &mut [u8],
     sent: &[u8],
@@ -90,8 +89,7 @@ pub extern "C" fn m25p_transact(
 }
 
 // Waits `ticks`: on the last tick of a cycle its effect comes.
-#[unsafe(no_mangle)]
-pub extern "C" fn m25p_wait(packed: &mut [u8], array: &mut [u8], ticks: u32) -> u64
+pub fn m25p_wait(packed: &mut [u8], array: &mut [u8], ticks: u32) -> u64
     ensures { CalledOn (timed_c (λ c. wait_call c ticks) packed.old array.old) packed.old result packed.new array.new }
 {
     let came = unpack(packed);
@@ -104,8 +102,7 @@ pub extern "C" fn m25p_wait(packed: &mut [u8], array: &mut [u8], ticks: u32) -> 
 }
 
 // Powers up: a cycle is completed.
-#[unsafe(no_mangle)]
-pub extern "C" fn m25p_power_up(packed: &mut [u8], array: &mut [u8]) -> u64
+pub fn m25p_power_up(packed: &mut [u8], array: &mut [u8]) -> u64
     ensures { CalledOn (timed_c power_up_call packed.old array.old) packed.old result packed.new array.new }
 {
     let came = unpack(packed);
@@ -118,8 +115,7 @@ pub extern "C" fn m25p_power_up(packed: &mut [u8], array: &mut [u8]) -> u64
 }
 
 // Power is lost and comes back: a cycle is cut as the mask says; a settings write is complete on yes, which is any number but 0.
-#[unsafe(no_mangle)]
-pub extern "C" fn m25p_loss(packed: &mut [u8], array: &mut [u8], mask: &[u8], yes: u32) -> u64
+pub fn m25p_loss(packed: &mut [u8], array: &mut [u8], mask: &[u8], yes: u32) -> u64
     ensures { CalledOn (timed_c (λ c. loss_call c mask.now (high yes)) packed.old array.old) packed.old result packed.new array.new }
 {
     let came = unpack(packed);
@@ -132,13 +128,7 @@ pub extern "C" fn m25p_loss(packed: &mut [u8], array: &mut [u8], mask: &[u8], ye
 }
 
 // A run over samples of the pins: the transactions carried out in order, the bits missing in them, and one output byte for each sample.
-#[unsafe(no_mangle)]
-pub extern "C" fn m25p_pins(
-    packed: &mut [u8],
-    array: &mut [u8],
-    samples: &[u8],
-    output: &mut [u8],
-) -> u64
+pub fn m25p_pins(packed: &mut [u8], array: &mut [u8], samples: &[u8], output: &mut [u8]) -> u64
     ensures { RanC packed.old array.old samples.now output.old result packed.new array.new output.new }
 {
     let came = unpack(packed);
@@ -152,8 +142,7 @@ pub extern "C" fn m25p_pins(
 }
 
 // A batch: its items carried out in order, or nothing at all.
-#[unsafe(no_mangle)]
-pub extern "C" fn m25p_batch(
+pub fn m25p_batch(
     packed: &mut [u8],
     array: &mut [u8],
     items: &[u8],
@@ -173,8 +162,7 @@ pub extern "C" fn m25p_batch(
 }
 
 // A report: a batch carried out and counted, or nothing at all.
-#[unsafe(no_mangle)]
-pub extern "C" fn m25p_report(
+pub fn m25p_report(
     packed: &mut [u8],
     array: &mut [u8],
     items: &[u8],
@@ -207,32 +195,28 @@ fn blocks_answer(reply: Reply) -> u64
 }
 
 // Writes the image of an array.
-#[unsafe(no_mangle)]
-pub extern "C" fn m25p_image_write(part: u32, array: &[u8], image: &mut [u8]) -> u64
+pub fn m25p_image_write(part: u32, array: &[u8], image: &mut [u8]) -> u64
     ensures { WrittenC part array.now image.old result image.new }
 {
     bare(image::write(part, array, image))
 }
 
 // Reads the array of an image whose blocks are all good.
-#[unsafe(no_mangle)]
-pub extern "C" fn m25p_image_read(part: u32, image: &[u8], array: &mut [u8]) -> u64
+pub fn m25p_image_read(part: u32, image: &[u8], array: &mut [u8]) -> u64
     ensures { ReadC part image.now array.old result array.new }
 {
     blocks_answer(image::read(part, image, array))
 }
 
 // Salvages an image, and lists the blocks that were bad.
-#[unsafe(no_mangle)]
-pub extern "C" fn m25p_image_salvage(part: u32, image: &mut [u8], list: &mut [u8]) -> u64
+pub fn m25p_image_salvage(part: u32, image: &mut [u8], list: &mut [u8]) -> u64
     ensures { SalvagedC part image.old list.old result image.new list.new }
 {
     blocks_answer(image::salvage(part, image, list))
 }
 
 // One transaction with one chip of a row: its packed record is written anew, and the others' stay.
-#[unsafe(no_mangle)]
-pub extern "C" fn m25p_bus_transact(
+pub fn m25p_bus_transact(
     row: &mut [u8],
     array: &mut [u8],
     chip: u32,
@@ -260,8 +244,7 @@ pub extern "C" fn m25p_bus_transact(
 }
 
 // Every chip of a row waits `ticks`, each on its own bytes.
-#[unsafe(no_mangle)]
-pub extern "C" fn m25p_bus_wait(row: &mut [u8], array: &mut [u8], ticks: u32) -> u64
+pub fn m25p_bus_wait(row: &mut [u8], array: &mut [u8], ticks: u32) -> u64
     ensures { BusWaitedC (bus_waited_c row.old array.old ticks) row.old result row.new array.new }
 {
     let n = row.len() / LENGTH;

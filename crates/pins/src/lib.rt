@@ -1,5 +1,6 @@
 // Raw pins: the transactions in a probe's samples carried out in order, and one output byte for each sample.
 #![tactic(auto)]
+
 ghost use Rattle.std.specs.Prelude.{◌≡◌, false, cond, ◌≤◌, ◌<◌, length, take};
 ghost use Rattle.chip.specs.Table.{longest};
 ghost use Rattle.pins.specs.Pins.{odd_samples, too_long};

@@ -9,7 +9,7 @@ use Rattle.parts.specs.declared.Figures.{Figures}
 use Rattle.parts.specs.Parts.{figures_of}
 use Rattle.device.specs.declared.Device.{Device}
 use Rattle.device.specs.Chip.{Chip, chip}
-use Rattle.chip.specs.Events.{Event, sends, waits, starts, loses, Reply, sent, story}
+use Rattle.chip.specs.Events.{Event, sends, waits, starts, loses, Reply, story}
 use Rattle.chip.proofs.Events.{Alike, AllSame, run-alike}
 use Rattle.batch.specs.Items.{events_of}
 use Rattle.report.specs.Totals.{Dealt, dealt, total_of}

@@ -1,5 +1,6 @@
 // A report over the week's batches: a batch carried out, and what its transactions did added to running totals.
 #![tactic(auto)]
+
 ghost use Rattle.std.specs.Prelude.{◌≡◌, true, false, [], ◌∷◌, ◌≤◌, ◌<◌, ◌+◌, length, get_or};
 ghost use Rattle.parts.specs.Parts.{figures_of};
 ghost use Rattle.device.specs.Device.{sound};
@@ -40,7 +41,7 @@ fn raise(counts: &mut [u64], i: usize, n: u64)
 // Counts one transaction.
 fn count(counts: &mut [u64], part: u8, sent: &[u8], answer: Answer)
     requires { Spare counts.old (3 + answer.count) × (answer.number < 32) }
-    ensures { Grown (figures_of part) (record { sent = sent.entry.now; answer = answer } ∷ []) counts.old counts.new }
+    ensures { Grown (figures_of part) (record { sent = sent.now; answer = answer } ∷ []) counts.old counts.new }
 {
     raise(counts, ANSWERS + (answer.number as usize), 1);
     raise(counts, DRIVEN, answer.count as u64);

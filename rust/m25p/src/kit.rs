@@ -14,14 +14,13 @@ struct Kit {
     linker: PathBuf,
 }
 
-/// The kit, or a sentence that says what is missing. `rt doc` prints the path of a file in its docs/.
+/// The kit, or a sentence that says what is missing. `rt doc` prints the path of a file at its top.
 fn kit() -> Result<&'static Kit, String> {
     static KIT: OnceLock<Result<Kit, String>> = OnceLock::new();
     let found = KIT.get_or_init(|| {
         let page = printed(Command::new("rt").arg("doc"))?;
-        let root = Path::new(page.trim()).ancestors().nth(2).unwrap_or(Path::new(""));
-        let own = root.join("on").join(std::env::consts::ARCH);
-        let kit = Kit { tools: own.join("toolchain"), linker: own.join("bin/rattle-link") };
+        let root = Path::new(page.trim()).parent().unwrap_or(Path::new(""));
+        let kit = Kit { tools: root.join("toolchain"), linker: root.join("bin/rattle-link") };
         let emulator = kit.tools.join("bin/qemu-x86_64");
         for tool in [&emulator, &kit.tools.join("bin/clang"), &kit.linker] {
             if !tool.is_file() {

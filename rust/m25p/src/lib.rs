@@ -52,7 +52,7 @@
 //! The functions in [`calls`] are the C calls themselves, on slices of any length.
 //!
 //! `libm25p.a` is for x86-64 and is linked there: the build takes it from `M25P_LIB_DIR`, or from
-//! `target/staticlib`, where `rt staticlib m25p` writes it. On another processor a program makes the calls
+//! `target/staticlib`, where `./archive` puts it. On another processor a program makes the calls
 //! under the emulator of the Rattle kit, in memory that it shares with this process, and nothing else
 //! changes for the user of this crate. The feature `bridge` asks for that program on x86-64, too.
 

@@ -1,4 +1,4 @@
-//! The bench program against its model, byte for byte: target/bin/bench, or the one M25P_BENCH names.
+//! The bench program against its model, byte for byte: crates/bench/out/bench, or the one M25P_BENCH names.
 
 use std::io::{BufRead, BufReader, Read, Write};
 use std::path::PathBuf;
@@ -20,9 +20,9 @@ const SEED: u64 = 1;
 fn start() -> Child {
     let path = match std::env::var_os("M25P_BENCH") {
         Some(path) => PathBuf::from(path),
-        None => PathBuf::from(env!("CARGO_MANIFEST_DIR")).join("../../target/bin/bench"),
+        None => PathBuf::from(env!("CARGO_MANIFEST_DIR")).join("../../crates/bench/out/bench"),
     };
-    assert!(path.is_file(), "There is no bench program {}: run `rt check bench`.", path.display());
+    assert!(path.is_file(), "There is no bench program {}: run `rt run` in crates/bench.", path.display());
     let mut command = kit::command(&path).unwrap_or_else(|why| panic!("{why}"));
     let child = command.stdin(Stdio::piped()).stdout(Stdio::piped()).spawn();
     child.unwrap_or_else(|e| panic!("the bench program {} does not start: {e}", path.display()))

@@ -151,6 +151,7 @@ fn the_first_run_shows_what_is_proved() {
     let mut told = lines(child.stderr.take().unwrap());
     let mut next = || told().unwrap_or_default();
     assert_eq!(next(), "bench: proving and building, once (a few minutes)");
+    assert_eq!(next(), "bench: slices is proved");
     assert_eq!(next(), "rt: slices proved (5 s)");
     assert!(!place.file("target/bench.proved").exists(), "the proof goes on");
     File::create(place.file("go")).unwrap();

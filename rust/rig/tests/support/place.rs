@@ -11,12 +11,15 @@ use std::thread;
 
 use super::common::{eventually, scratch, send_signal, PATIENCE, SIGTERM};
 
-/// Stands in for rt. `rt check` takes as long as there is no file `go`, with two processes that do not
-/// heed Ctrl-C, and succeeds unless there is a file `wrong`.
+/// Stands in for rt. `rt run`, in the folder of the crate, takes as long as there is no file `go`, with two processes that
+/// do not heed Ctrl-C, and succeeds unless there is a file `wrong`.
 const STAND_IN: &str = r#"#!/bin/sh
-[ "$1" = check ] || exec "$REAL_RT" "$@"
+[ "$1" = run ] || exec "$REAL_RT" "$@"
+cd ../..
 echo called >>target/calls
 echo 'fn slices::least: proved'
+echo 'crate slices: modules loaded=0 checked=33'
+echo 'logic=proved functions=1'
 echo 'rt: slices proved (5 s)'
 (trap '' INT; while [ ! -e go ]; do sleep 0.05; done) &
 (trap '' INT; while [ ! -e go ]; do sleep 0.05; done) &
@@ -64,16 +67,16 @@ impl Place {
     pub fn unproved(test: &str) -> Option<Place> {
         let real = rt(test)?;
         let directory = scratch(&format!("bench_{test}"));
-        for part in ["crates/bench", "target/bin", "stand-in"] {
+        for part in ["crates/bench/out", "target", "stand-in"] {
             fs::create_dir_all(directory.join(part)).unwrap();
         }
         let root = Path::new(env!("CARGO_MANIFEST_DIR")).join("../..");
         let program = match std::env::var_os("M25P_BENCH") {
             Some(path) => PathBuf::from(path),
-            None => root.join("target/bin/bench"),
+            None => root.join("crates/bench/out/bench"),
         };
-        assert!(program.is_file(), "There is no {}: run `rt check bench`.", program.display());
-        install(&program, &directory.join("target/bin/bench"));
+        assert!(program.is_file(), "There is no {}: run `rt run` in crates/bench.", program.display());
+        install(&program, &directory.join("crates/bench/out/bench"));
         install(&root.join("bench"), &directory.join("bench"));
         fs::write(directory.join("crates.txt"), "bench:\n").unwrap();
         let text = directory.join("stand-in/text");
