@@ -1,5 +1,6 @@
 // Chip images: an array as blocks of 512 bytes with sums, written, read and salvaged.
 #![tactic(auto)]
+
 ghost use Rattle.std.specs.Prelude.{◌≡◌, ◌+◌, ◌*◌, ◌<◌, ◌≤◌, length, get_or, drop, slice_index_or};
 ghost use Rattle.slices.specs.Changed.{map_at};
 ghost use Rattle.image.specs.Sums.{sums_of};
@@ -116,6 +117,7 @@ fn reason(place: usize, block: &[u8]) -> u8
 }
 
 // A bad block gets FF for its bytes of the array and a right head; a good one stays.
+#[tactic(auto, using(crate::proofs::Blocks::kept, crate::proofs::Blocks::anew))]
 fn salvage_block(block: &mut [u8], place: usize) -> u8
     requires { length block.old ≡ 512 }
     ensures { BlockSalvaged place block.old result block.new }

@@ -1,5 +1,6 @@
 // The bench's line language: what a line asks, and the lines that answer it.
 #![tactic(auto)]
+
 ghost use Rattle.std.specs.Prelude.{◌≡◌, true, [], ◌∷◌, ◌<◌, min, get_or, drop};
 ghost use Rattle.slices.specs.Changed.{map_at};
 ghost use Rattle.script.specs.Lines.{digit_of, all_below, number_of, is_hex, is_number, is_exchange, is_wait, is_power_up, pairs, Parsed};

@@ -1,0 +1,11 @@
+use Rattle.std.proofs.Common.{◌≡◌, ◌-◌, ◌*◌, ◌≤◌, length}
+use Rattle.slices.specs.Changed.{map_at, window}
+use Rattle.image.specs.Images.{imaged}
+use Rattle.image.proofs.write_all.Given as goal
+
+abbrev pub invariant-loop-place : goal.invariant-loop-place
+invariant-loop-place l =
+    (l.place ≤ l.count) × (l.a ≡ l.place * 512) × (l.c ≡ l.place * 504) × (length l.image ≡ length l.initial.image) × (l.image ≡ map_at (window 0 l.a (imaged l.array)) l.initial.image)
+
+abbrev pub decreases-loop-place : goal.decreases-loop-place
+decreases-loop-place l = l.count - l.place
