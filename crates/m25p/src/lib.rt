@@ -1,5 +1,6 @@
 // What the C calls do: delivery, transaction, wait, power-up, power loss, raw pins, a batch and a report over the packed bytes of a record; images; and a bus over the packed bytes of a row of records.
 #![tactic(auto)]
+
 ghost use Rattle.std.specs.Prelude.{◌≡◌, ◌≤◌, ◌<◌};
 ghost use Rattle.memory.specs.Missing.{most_missing};
 ghost use Rattle.slices.specs.Chosen.{on_zero};
@@ -127,12 +128,7 @@ pub fn m25p_loss(packed: &mut [u8], array: &mut [u8], mask: &[u8], yes: u32) -> 
 }
 
 // A run over samples of the pins: the transactions carried out in order, the bits missing in them, and one output byte for each sample.
-pub fn m25p_pins(
-    packed: &mut [u8],
-    array: &mut [u8],
-    samples: &[u8],
-    output: &mut [u8],
-) -> u64
+pub fn m25p_pins(packed: &mut [u8], array: &mut [u8], samples: &[u8], output: &mut [u8]) -> u64
     ensures { RanC packed.old array.old samples.now output.old result packed.new array.new output.new }
 {
     let came = unpack(packed);

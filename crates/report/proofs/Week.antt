@@ -39,7 +39,7 @@ left-chip c {items} {responses} {answers} {held} {r} {array'} p z = let h = take
 -- THEOREM: the chip
 pub week-chip : (files : List (List ℕ)) (c : Chip) (held : List ℕ) (kept : List (List ℕ)) (end : Chip) (last : List ℕ) → Week files c held kept end last → end ≡ run (events_of_all kept) c
 week-chip [] c held [] end last (none _ _) = refl
-week-chip [] c held (_ ∷ kept) end last x3 = elim x3 [ ]
+week-chip [] c held (_ ∷ kept) end last w = elim w [ ]
 week-chip (file ∷ files) c held (_ ∷ kept) end last (took _ _ _ _ responses answers r array' responses' answers' held' _ _ _ p z w) =
     week-chip files (chip r.device array') held' kept end last w ∙ (ap (run (events_of_all kept)) (left-chip c p z) ∙ sym (run-append (events_of file) (events_of_all kept) c))
 week-chip (file ∷ files) c held kept end last (refuses _ _ _ _ responses answers r array' responses' answers' held' _ _ _ p n w) =
@@ -50,7 +50,7 @@ week-chip (file ∷ files) c held kept end last (refuses _ _ _ _ responses answe
 pub week-totals : (files : List (List ℕ)) (c : Chip) (held : List ℕ) (kept : List (List ℕ)) (end : Chip) (last : List ℕ) → Week files c held kept end last → (i : ℕ) → i < totals
     → total_in last i ≡ total_in held i + gained (events_of_all kept) c i
 week-totals [] c held [] end last (none _ _) i h = omega (arith, total-none (figures_of c.device.part) i)
-week-totals [] c held (_ ∷ kept) end last x5 i h = elim x5 [ ]
+week-totals [] c held (_ ∷ kept) end last w i h = elim w [ ]
 week-totals (file ∷ files) c held (_ ∷ kept) end last (took _ _ _ _ responses answers r array' responses' answers' held' _ _ _ p z w) i h =
     let a = week-totals files (chip r.device array') held' kept end last w i h in
     let b = ap (λ (e : Chip). gained (events_of_all kept) e i) (left-chip c p z) in

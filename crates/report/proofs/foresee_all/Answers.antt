@@ -9,15 +9,17 @@ use Rattle.report.proofs.foresee_all.Goals as goal
 
 pub loop-at-init : goal.loop-at-init
 loop-at-init c =
-    (refl, λ xs l. going-first c.args.items.now c.args.device c.args.array xs l c.requires.0 c.requires.1 c.requires.2)
+    let s = c in
+    (refl, λ xs l. going-first s.args.items.now s.args.device s.args.array xs l s.requires.0 s.requires.1 s.requires.2)
 
 pub foresee_one-device-requires : goal.foresee_one-device-requires
 foresee_one-device-requires c =
     let l = c.loop-at in
-    let i = c.args.items.now in
+    let s = c in
+    let i = s.args.items.now in
     let t = c.loop-at-test.true in
     let e = c.size.ensures in
-    let g = l.invariant.1 (replicate c.args.array 0) (length-replicate c.args.array 0) in
+    let g = l.invariant.1 (replicate s.args.array 0) (length-replicate s.args.array 0) in
     let n = next-item i l.at t _ e in
     let m = next-some i l.at t _ e in
     let f = next_fits i l.at t _ e in
@@ -26,14 +28,15 @@ foresee_one-device-requires c =
 pub loop-at-preserved : goal.loop-at-preserved
 loop-at-preserved c =
     let l = c.loop-at in
-    let i = c.args.items.now in
+    let s = c in
+    let i = s.args.items.now in
     let t = c.loop-at-test.true in
     let e = c.size.ensures in
     let n = next-item i l.at t _ e in
     let m = next-some i l.at t _ e in
     let f = next_fits i l.at t _ e in
     let w = c.foresee_one-device.ensures in
-    let z = l.invariant.1 (replicate c.args.array 0) (length-replicate c.args.array 0) in
+    let z = l.invariant.1 (replicate s.args.array 0) (length-replicate s.args.array 0) in
     ((w z.array z.array_long).grown.long, λ xs q. let g = l.invariant.1 xs q in going_next i l.at l.device l.counts g _ n (omega (arith, m)) f (w g.array g.array_long))
 
 pub returns : goal.returns

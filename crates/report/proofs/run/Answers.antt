@@ -18,16 +18,23 @@ foresee_all-counts-requires c =
 
 pub returns-then-exceeding : goal.returns-then-exceeding
 returns-then-exceeding c =
-    let a = c.args in
-    refused-sums a.device a.array.now a.items.now a.responses.now a.answers.now a.totals.now (sym c.batch_number-answer.ensures ∙ c.if-answer-ne0.false) c.foresee_all-counts.ensures
+    let f = c in
+    let n = f in
+    let a = n.args in
+    refused-sums a.device a.array.now a.items.now a.responses.now a.answers.now a.totals.now (sym n.batch_number-answer.ensures ∙ f.if-answer-ne0.false) f.foresee_all-counts.ensures
     (sym c.exceeding.ensures ∙ c.if-exceeding.true)
 
 pub add_all-requires : goal.add_all-requires
 add_all-requires c =
-    (c.foresee_all-counts.ensures.long, sym c.exceeding.ensures ∙ c.if-exceeding.false)
+    let x = c in
+    (x.foresee_all-counts.ensures.long, sym x.exceeding.ensures ∙ x.if-exceeding.false)
 
 pub returns : goal.returns
 returns c =
-    let a = c.args in
-    done a.device a.array.now a.items.now a.responses.now a.answers.now a.totals.now (sym c.batch_number-answer.ensures ∙ c.if-answer-ne0.false) c.foresee_all-counts.ensures
-    (sym c.exceeding.ensures ∙ c.if-exceeding.false) (lit≤ tt) c.run-done.ensures c.add_all.ensures
+    let r = c in
+    let x = r in
+    let f = x in
+    let n = f in
+    let a = n.args in
+    done a.device a.array.now a.items.now a.responses.now a.answers.now a.totals.now (sym n.batch_number-answer.ensures ∙ f.if-answer-ne0.false) f.foresee_all-counts.ensures
+    (sym x.exceeding.ensures ∙ x.if-exceeding.false) (lit≤ tt) r.run-done.ensures c.add_all.ensures

@@ -1,0 +1,17 @@
+-- `m25p::m25p_report` meets its contract.
+use Rattle.m25p.proofs.Report.{refused, carried}
+use Rattle.m25p.proofs.m25p_report.Goals as goal
+
+pub returns-then-came-ne0 : goal.returns-then-came-ne0
+returns-then-came-ne0 c =
+    let u = c in
+    let a = u.args in
+    refused a.packed.now a.array.now a.items.now a.responses.now a.answers.now a.totals.now u.unpack-came.ensures c.if-came-ne0.true c.bare.ensures
+
+pub returns : goal.returns
+returns c =
+    let b = c in
+    let n = b in
+    let u = n in
+    let a = u.args in
+    carried a.packed.now a.array.now a.items.now a.responses.now a.answers.now a.totals.now u.unpack-came.ensures n.if-came-ne0.false b.run-done.ensures c.store.ensures c.bare-2.ensures
