@@ -1,11 +1,13 @@
 // The bench program: it reads lines, hands each to the bench part, and prints the answers. What a line asks and how an answer is printed stands in `script`.
 #![tactic(auto)]
+
 use device::Device;
 use script::Command;
 use slices::{front, least};
+use std::io::{self, Read};
 
 // What stands between two bytes of input: the chip, the lines answered, the characters of the line so far, and how much text waits to be written.
-#[derive(Drop)]
+#[derive(Clone, Copy)]
 pub struct State {
     pub device: Device,
     pub lines: u64,
@@ -14,7 +16,7 @@ pub struct State {
 }
 
 // What a line did: its answer, how many response bytes there are, and the chip afterwards.
-#[derive(Drop)]
+#[derive(Clone, Copy)]
 pub struct Acted {
     pub answer: u8,
     pub count: usize,
@@ -22,25 +24,25 @@ pub struct Acted {
 }
 
 // What a read brought: whether there may be more, and what stands then.
-#[derive(Drop)]
+#[derive(Clone, Copy)]
 struct Input {
     more: bool,
     state: State,
 }
 
 // Writes the text that waits.
-fn flush(text: &[u8], at: usize) {
-    io::write_all(1, front(text, at));
+fn flush(rt: &impl Print, text: &[u8], at: usize) -> io::Result<()> {
+    rt.write_all(front(text, at))
 }
 
 // Room for a line in the text: where there may be too little, what waits is written first. A line has at most 620 characters.
-fn room(text: &[u8], at: usize) -> usize {
+fn room(rt: &impl Print, text: &[u8], at: usize) -> io::Result<usize> {
     let n = least(at, text.len());
     if text.len() - n < 640 {
-        flush(text, n);
-        return 0;
+        flush(rt, text, n)?;
+        return Ok(0);
     }
-    n
+    Ok(n)
 }
 
 // The first `n` bytes of `sent` as a transaction. No line has more bytes than `sent` has room for.
@@ -114,17 +116,18 @@ fn act(
 
 // One line, whole: what it asks is done, and its answer joins the text that waits.
 fn reply(
+    rt: &impl Print,
     line: &[u8],
     array: &mut [u8],
     sent: &mut [u8],
     response: &mut [u8],
     text: &mut [u8],
     state: State,
-) -> State {
+) -> io::Result<State> {
     let acted = act(line, state.device, array, sent, response);
     let device = acted.device;
     let lines = std::num::wrapping_add_u64(state.lines, 1);
-    let from = room(text, state.at);
+    let from = room(rt, text, state.at)?;
     let at = script::print_answer(
         lines,
         acted.answer,
@@ -132,12 +135,12 @@ fn reply(
         text,
         from,
     );
-    State {
+    Ok(State {
         device,
         lines,
         len: 0,
         at,
-    }
+    })
 }
 
 // One more character of a line that has `len`: the length afterwards. It stays at the buffer's length, which is one more than a line may have.
@@ -151,6 +154,7 @@ fn append(line: &mut [u8], len: usize, b: u8) -> usize {
 
 // One byte of input: a newline ends the line, any other byte goes to it.
 fn one(
+    rt: &impl Print,
     b: u8,
     line: &mut [u8],
     array: &mut [u8],
@@ -158,22 +162,31 @@ fn one(
     response: &mut [u8],
     text: &mut [u8],
     state: State,
-) -> State {
+) -> io::Result<State> {
     if b == 10 {
-        return reply(front(line, state.len), array, sent, response, text, state);
+        return reply(
+            rt,
+            front(line, state.len),
+            array,
+            sent,
+            response,
+            text,
+            state,
+        );
     }
     let device = state.device;
     let len = append(line, state.len, b);
-    State {
+    Ok(State {
         device,
         lines: state.lines,
         len,
         at: state.at,
-    }
+    })
 }
 
 // A chunk of input.
 fn feed(
+    rt: &impl Print,
     chunk: &[u8],
     line: &mut [u8],
     array: &mut [u8],
@@ -181,99 +194,111 @@ fn feed(
     response: &mut [u8],
     text: &mut [u8],
     state: State,
-) -> State {
+) -> io::Result<State> {
     let mut now = state;
     let mut i = 0;
     while i < chunk.len() {
-        now = one(chunk[i], line, array, sent, response, text, now);
+        now = one(rt, chunk[i], line, array, sent, response, text, now)?;
         i += 1;
     }
-    now
+    Ok(now)
 }
 
 // Writes the text that waits, and goes on with none.
-fn written(text: &[u8], state: State) -> State {
-    flush(text, state.at);
+fn written(rt: &impl Print, text: &[u8], state: State) -> io::Result<State> {
+    flush(rt, text, state.at)?;
     let device = state.device;
-    State {
+    Ok(State {
         device,
         lines: state.lines,
         len: state.len,
         at: 0,
-    }
+    })
 }
 
 // One read and one write: the lines that a read brings whole are answered before the next read.
 fn read_some(
+    rt: &impl Print,
+    reader: &mut impl Read,
     line: &mut [u8],
     array: &mut [u8],
     sent: &mut [u8],
     response: &mut [u8],
     text: &mut [u8],
     state: State,
-) -> Input {
-    let mut chunk = io::buffer();
-    let got = libc::read(0, &mut chunk);
-    if got <= 0 {
-        return Input { more: false, state };
+) -> io::Result<Input> {
+    let mut chunk = [0u8; 4096];
+    let n = reader.read(&mut chunk)?;
+    if n == 0 {
+        return Ok(Input { more: false, state });
     }
-    let n = io::count(got, &chunk);
-    let next = feed(&chunk[..n], line, array, sent, response, text, state);
-    let state = written(text, next);
-    Input { more: true, state }
+    let next = feed(rt, &chunk[..n], line, array, sent, response, text, state)?;
+    let state = written(rt, text, next)?;
+    Ok(Input { more: true, state })
 }
 
 // Reads to the end of the input.
 fn run(
+    rt: &impl Print,
+    reader: &mut impl Read,
     line: &mut [u8],
     array: &mut [u8],
     sent: &mut [u8],
     response: &mut [u8],
     text: &mut [u8],
     start: State,
-) -> State {
+) -> io::Result<State> {
     let mut state = start;
     let mut turns = u64::MAX;
     while turns > 0 {
-        let input = read_some(line, array, sent, response, text, state);
+        let input = read_some(rt, reader, line, array, sent, response, text, state)?;
         state = input.state;
         if !input.more {
-            return state;
+            return Ok(state);
         }
         turns -= 1;
     }
-    state
+    Ok(state)
 }
 
 // The last line, where it has characters and no newline.
 fn finish(
+    rt: &impl Print,
     line: &[u8],
     array: &mut [u8],
     sent: &mut [u8],
     response: &mut [u8],
     text: &mut [u8],
     state: State,
-) -> State {
+) -> io::Result<State> {
     if state.len == 0 {
-        return state;
+        return Ok(state);
     }
-    reply(front(line, state.len), array, sent, response, text, state)
+    reply(
+        rt,
+        front(line, state.len),
+        array,
+        sent,
+        response,
+        text,
+        state,
+    )
 }
 
 // The line that ends the output.
-fn end(text: &mut [u8], state: State) {
-    let from = room(text, state.at);
+fn end(rt: &impl Print, text: &mut [u8], state: State) -> io::Result<()> {
+    let from = room(rt, text, state.at)?;
     let at = script::print_end(state.lines, text, from);
-    flush(text, at);
+    flush(rt, text, at)
 }
 
-fn main() {
+fn main(rt: HostRuntime) -> io::Result<()> {
     let mut line = [0u8; 601];
     let mut array = [0u8; 4096];
     let mut sent = [0u8; 300];
     let mut response = [0u8; 300];
     let mut text = [0u8; 8192];
-    io::write_all(1, b"n ans q\n");
+    rt.write_all(b"n ans q\n")?;
     let fresh = chip::deliver(0, &mut array, 3, 5, 9, 2);
     let device = fresh.device;
     let start = State {
@@ -283,20 +308,23 @@ fn main() {
         at: 0,
     };
     let state = run(
+        &rt,
+        &mut rt.reader(),
         &mut line,
         &mut array,
         &mut sent,
         &mut response,
         &mut text,
         start,
-    );
+    )?;
     let state = finish(
+        &rt,
         &line,
         &mut array,
         &mut sent,
         &mut response,
         &mut text,
         state,
-    );
-    end(&mut text, state);
+    )?;
+    end(&rt, &mut text, state)
 }

@@ -4,12 +4,13 @@ use chip::Answer;
 use device::packing::LENGTH;
 use device::{Device, packing};
 use slices::{byte_at, least};
+use std::io;
 
 // How many bytes a response has at most.
 const LINE: usize = 6;
 
 // What is asked of how many chips: a wait of so many ticks, or a transaction with a chip, of `count` bytes and so many further pulses, with room for a response.
-#[derive(Drop)]
+#[derive(Clone, Copy)]
 pub struct Step {
     pub chips: usize,
     pub waits: bool,
@@ -20,7 +21,7 @@ pub struct Step {
 }
 
 // What an entry answered, with the row and the response as they are then.
-#[derive(Drop)]
+#[derive(Clone, Copy)]
 pub struct Told {
     pub answer: Answer,
     pub row: [Device; PLACES],
@@ -28,7 +29,7 @@ pub struct Told {
 }
 
 // The row of each entry, and whether all was the same so far.
-#[derive(Drop)]
+#[derive(Clone, Copy)]
 pub struct Two {
     pub lent: [Device; PLACES],
     pub plain: [Device; PLACES],
@@ -41,7 +42,7 @@ fn same_record(d: Device, e: Device) -> bool {
     let mut y = [0; LENGTH];
     packing::write(d, &mut x);
     packing::write(e, &mut y);
-    check::same(&x, &y)
+    show::same(&x, &y)
 }
 
 // An r for each place whose records differ, else a dash.
@@ -58,55 +59,63 @@ fn row_marks(row: [Device; PLACES], other: [Device; PLACES]) -> [u8; PLACES] {
 }
 
 // Prints an a for each chip whose bytes differ, else a dash.
-fn print_chips(a: &[u8], b: &[u8]) {
+fn print_chips(rt: &impl Print, a: &[u8], b: &[u8]) -> io::Result<()> {
     let n = least(a.len(), b.len());
     let mut from = 0;
     while from < n {
         let to = from + least(4096, n - from);
-        show::print_choice(check::same(&a[from..to], &b[from..to]), b"-", b"a");
+        show::print_choice(rt, show::same(&a[from..to], &b[from..to]), b"-", b"a")?;
         from = to;
     }
+    Ok(())
 }
 
 // Prints what is asked.
-fn print_step(step: Step, sent: &[u8]) {
+fn print_step(rt: &impl Print, step: Step, sent: &[u8]) -> io::Result<()> {
     if step.waits {
-        io::write_all(1, b"wait");
-        show::print_number(step.number as u64);
+        rt.write_all(b"wait")?;
+        show::print_number(rt, step.number as u64)?;
     } else {
-        show::print_bytes(slices::front(sent, LINE));
-        show::print_choice(sent.len() <= LINE, b" +", b".. +");
-        io::print_decimal(1, step.number as u64);
-        io::write_all(1, b" to chip");
-        show::print_number(step.chip as u64);
+        show::print_bytes(rt, slices::front(sent, LINE))?;
+        show::print_choice(rt, sent.len() <= LINE, b" +", b".. +")?;
+        print!(rt; "{}", step.number)?;
+        rt.write_all(b" to chip")?;
+        show::print_number(rt, step.chip as u64)?;
     }
-    io::write_all(1, b" of");
-    show::print_number(step.chips as u64);
-    io::write_all(1, b":");
+    rt.write_all(b" of")?;
+    show::print_number(rt, step.chips as u64)?;
+    rt.write_all(b":")
 }
 
 // Prints an answer.
-fn print_answer(x: Answer) {
-    show::print_number(x.number as u64);
-    show::print_number(x.first as u64);
-    show::print_number(x.count as u64);
-    show::print_number(x.missing as u64);
-    io::write_all(1, b" ");
+fn print_answer(rt: &impl Print, x: Answer) -> io::Result<()> {
+    show::print_number(rt, x.number as u64)?;
+    show::print_number(rt, x.first as u64)?;
+    show::print_number(rt, x.count as u64)?;
+    show::print_number(rt, x.missing as u64)?;
+    rt.write_all(b" ")
 }
 
 // Prints what the first entry did, and ends the line: `row` and `b` are the row and the array as they were.
-fn print_told(room: usize, row: [Device; PLACES], x: Told, a: &[u8], b: &[u8]) {
+fn print_told(
+    rt: &impl Print,
+    room: usize,
+    row: [Device; PLACES],
+    x: Told,
+    a: &[u8],
+    b: &[u8],
+) -> io::Result<()> {
     let answer = x.answer;
     let line = x.line;
     let next = x.row;
     let marks = row_marks(row, next);
-    print_answer(answer);
-    show::print_bytes(slices::front(&line, room));
-    io::write_all(1, b" ");
-    io::write_all(1, &marks);
-    io::write_all(1, b" ");
-    print_chips(a, b);
-    io::write_all(1, b"\n");
+    print_answer(rt, answer)?;
+    show::print_bytes(rt, slices::front(&line, room))?;
+    rt.write_all(b" ")?;
+    rt.write_all(&marks)?;
+    rt.write_all(b" ")?;
+    print_chips(rt, a, b)?;
+    rt.write_all(b"\n")
 }
 
 // One step on a lent row; W is high.
@@ -182,11 +191,18 @@ fn plain(row: [Device; PLACES], step: Step, b: &mut [u8], sent: &[u8]) -> Told {
 }
 
 // One step on a lent row, printed. `b` is the array as it was before.
-fn printed(row: [Device; PLACES], step: Step, a: &mut [u8], b: &[u8], sent: &[u8]) -> Told {
+fn printed(
+    rt: &impl Print,
+    row: [Device; PLACES],
+    step: Step,
+    a: &mut [u8],
+    b: &[u8],
+    sent: &[u8],
+) -> io::Result<Told> {
     let x = lent(row, step, a, sent);
-    print_step(step, sent);
-    print_told(step.room, row, x, a, b);
-    x
+    print_step(rt, step, sent)?;
+    print_told(rt, step.room, row, x, a, b)?;
+    Ok(x)
 }
 
 // Whether two answers are the same.
@@ -204,23 +220,30 @@ fn same_told(x: Told, y: Told) -> bool {
     let line = x.line;
     let again = y.line;
     let marks = row_marks(row, places);
-    same_answer(answer, other) & show::all_are(&marks, 0, b'-') & check::same(&line, &again)
+    same_answer(answer, other) & show::all_are(&marks, 0, b'-') & show::same(&line, &again)
 }
 
 // One step through both entries. Until the second entry runs, its array is what the first one's was before.
-pub(crate) fn both(t: Two, step: Step, a: &mut [u8], b: &mut [u8], sent: &[u8]) -> Two {
+pub(crate) fn both(
+    rt: &impl Print,
+    t: Two,
+    step: Step,
+    a: &mut [u8],
+    b: &mut [u8],
+    sent: &[u8],
+) -> io::Result<Two> {
     let row = t.lent;
     let other = t.plain;
-    let x = printed(row, step, a, b, sent);
+    let x = printed(rt, row, step, a, b, sent)?;
     let y = plain(other, step, b, sent);
-    let same = same_told(x, y) & check::same(a, b);
+    let same = same_told(x, y) & show::same(a, b);
     let next = x.row;
     let last = y.row;
-    Two {
+    Ok(Two {
         lent: next,
         plain: last,
         same: t.same & same,
-    }
+    })
 }
 
 // The digit at a place.
@@ -246,15 +269,21 @@ fn step_in(s: &[u8]) -> Step {
 }
 
 // The steps of a script, each followed by the bytes sent.
-pub(crate) fn run(start: Two, a: &mut [u8], b: &mut [u8], script: &[u8]) -> Two {
+pub(crate) fn run(
+    rt: &impl Print,
+    start: Two,
+    a: &mut [u8],
+    b: &mut [u8],
+    script: &[u8],
+) -> io::Result<Two> {
     let mut t = start;
     let mut at = 0;
     while at < script.len() {
         let step = step_in(&script[at..]);
         let from = at + least(5, script.len() - at);
         let to = from + least(step.count, script.len() - from);
-        t = both(t, step, a, b, &script[from..to]);
+        t = both(rt, t, step, a, b, &script[from..to])?;
         at = to;
     }
-    t
+    Ok(t)
 }

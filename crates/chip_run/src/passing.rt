@@ -1,9 +1,10 @@
 // Time and power in a case: waits, power-ups and power losses, on the records and arrays of both entries.
 use crate::steps::{Two, same_record};
 use device::{Checked, Device};
+use std::io;
 
 // What time and power do: ticks go by, a power-up, a power loss with a byte in each place of the mask and yes or no.
-#[derive(Drop)]
+#[derive(Clone, Copy)]
 pub enum Passing {
     Wait(u8),
     PowerUp,
@@ -23,12 +24,19 @@ pub(crate) fn pass(d: Device, a: &mut [u8], what: Passing) -> Checked {
 }
 
 // The same, printed: a name, the answer, and a where the array changed. `b` is the array as it was before.
-fn passed(name: &[u8], d: Device, a: &mut [u8], b: &[u8], what: Passing) -> Checked {
+fn passed(
+    rt: &impl Print,
+    name: &[u8],
+    d: Device,
+    a: &mut [u8],
+    b: &[u8],
+    what: Passing,
+) -> io::Result<Checked> {
     let x = pass(d, a, what);
-    io::write_all(1, name);
-    show::print_number(x.answer as u64);
-    show::print_choice(check::same(a, b), b" -", b" a");
-    x
+    rt.write_all(name)?;
+    show::print_number(rt, x.answer as u64)?;
+    show::print_choice(rt, show::same(a, b), b" -", b" a")?;
+    Ok(x)
 }
 
 // The same on the other entry's record, compared with what the first did.
@@ -41,15 +49,22 @@ fn joined(t: Two, x: Checked, a: &[u8], b: &mut [u8], what: Passing) -> Two {
     Two {
         by_value,
         lent,
-        same: t.same & records & (x.answer == y.answer) & check::same(a, b),
+        same: t.same & records & (x.answer == y.answer) & show::same(a, b),
     }
 }
 
 // A step of time or power on both records. Until the second array is lent, it is what the first one was before.
-pub(crate) fn timed(name: &[u8], t: Two, what: Passing, a: &mut [u8], b: &mut [u8]) -> Two {
+pub(crate) fn timed(
+    rt: &impl Print,
+    name: &[u8],
+    t: Two,
+    what: Passing,
+    a: &mut [u8],
+    b: &mut [u8],
+) -> io::Result<Two> {
     let d = t.by_value;
-    let x = passed(name, d, a, b, what);
-    joined(t, x, a, b, what)
+    let x = passed(rt, name, d, a, b, what)?;
+    Ok(joined(t, x, a, b, what))
 }
 
 // Completes a cycle that runs, and prints nothing.

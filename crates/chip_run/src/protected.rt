@@ -1,6 +1,7 @@
 // The protected area of each BP, found by erasing at both ends of each sector.
 use crate::{steps, text};
 use device::Device;
+use std::io;
 
 // The letter of two answers: a dot where both are executed, P where both give 17.
 fn letter(x: u8, y: u8) -> u8 {
@@ -35,39 +36,65 @@ fn erase(d: Device, a: &mut [u8], b: &mut [u8], at: u32) -> u8 {
 }
 
 // Prints the letter of each sector: that of its first byte, or a question mark where its last byte differs.
-fn row(d: Device, a: &mut [u8], b: &mut [u8], sectors: u32, size: u32) {
+fn row(
+    rt: &impl Print,
+    d: Device,
+    a: &mut [u8],
+    b: &mut [u8],
+    sectors: u32,
+    size: u32,
+) -> io::Result<()> {
     let mut left = sectors;
     let mut at = 0;
     while left > 0 {
         let next = std::num::wrapping_add_u32(at, size);
         let x = erase(d, a, b, at);
         let y = erase(d, a, b, std::num::wrapping_sub_u32(next, 1));
-        io::write_all(1, &[slices::when(x == y, x, b'?')]);
+        rt.write_all(&[slices::when(x == y, x, b'?')])?;
         at = next;
         left -= 1;
     }
+    Ok(())
 }
 
 // One row: the BP, a colon and the letters.
-fn labelled(d: Device, bp: u8, a: &mut [u8], b: &mut [u8], sectors: u32, size: u32) {
-    show::print_number(show::wide(bp));
-    io::write_all(1, b":");
-    row(steps::settings(d, false, bp, true), a, b, sectors, size);
+fn labelled(
+    rt: &impl Print,
+    d: Device,
+    bp: u8,
+    a: &mut [u8],
+    b: &mut [u8],
+    sectors: u32,
+    size: u32,
+) -> io::Result<()> {
+    show::print_number(rt, show::wide(bp))?;
+    rt.write_all(b":")?;
+    row(rt, steps::settings(d, false, bp, true), a, b, sectors, size)
 }
 
 // A row for each BP from 0 on.
-fn rows(d: Device, a: &mut [u8], b: &mut [u8], sectors: u32, size: u32, count: u8) {
+fn rows(
+    rt: &impl Print,
+    d: Device,
+    a: &mut [u8],
+    b: &mut [u8],
+    sectors: u32,
+    size: u32,
+    count: u8,
+) -> io::Result<()> {
     let mut bp = 0;
     let mut left = count;
     while left > 0 {
-        labelled(d, bp, a, b, sectors, size);
+        labelled(rt, d, bp, a, b, sectors, size)?;
         bp = std::num::wrapping_add_u8(bp, 1);
         left -= 1;
     }
+    Ok(())
 }
 
 // A part's rows on one line.
 pub(crate) fn table(
+    rt: &impl Print,
     name: &[u8],
     part: u32,
     a: &mut [u8],
@@ -75,9 +102,9 @@ pub(crate) fn table(
     sectors: u32,
     size: u32,
     count: u8,
-) {
-    let t = steps::begin(name, part, a, b);
+) -> io::Result<()> {
+    let t = steps::begin(rt, name, part, a, b)?;
     let d = t.by_value;
-    rows(d, a, b, sectors, size, count);
-    io::write_all(1, b"\n");
+    rows(rt, d, a, b, sectors, size, count)?;
+    rt.write_all(b"\n")
 }

@@ -18,9 +18,10 @@ use device::cycle::{Cycle, Kind};
 use device::locks::REGISTERS;
 use device::{Device, Mode};
 use slices::byte_at;
+use std::io;
 
 // The record of each entry, and whether all was the same so far.
-#[derive(Drop)]
+#[derive(Clone, Copy)]
 pub struct Two {
     pub by_value: Device,
     pub lent: Device,
@@ -57,12 +58,12 @@ fn kind_number(kind: Kind) -> u8 {
 
 // Whether two sets of slots are the same.
 fn same_slots(a: [u8; 256], b: [u8; 256]) -> bool {
-    check::same(&a, &b)
+    show::same(&a, &b)
 }
 
 // Whether the lock registers of two records are the same.
 fn same_locks(a: [u8; REGISTERS], b: [u8; REGISTERS]) -> bool {
-    check::same(&a, &b)
+    show::same(&a, &b)
 }
 
 // Whether two remembered cycles are the same, field by field.
@@ -101,20 +102,20 @@ fn same_answer(x: Answer, y: Answer) -> bool {
 }
 
 // Prints an answer.
-fn print_answer(x: Answer) {
-    io::write_all(1, b" |");
-    show::print_number(x.number as u64);
-    show::print_number(x.first as u64);
-    show::print_number(x.count as u64);
-    show::print_number(x.missing as u64);
-    io::write_all(1, b" ");
+fn print_answer(rt: &impl Print, x: Answer) -> io::Result<()> {
+    rt.write_all(b" |")?;
+    show::print_number(rt, x.number as u64)?;
+    show::print_number(rt, x.first as u64)?;
+    show::print_number(rt, x.count as u64)?;
+    show::print_number(rt, x.missing as u64)?;
+    rt.write_all(b" ")
 }
 
 // Prints the three marks.
-fn print_marks(record: bool, array: bool, beyond: bool) {
-    show::print_choice(record, b" -", b" r");
-    show::print_choice(array, b"-", b"a");
-    show::print_choice(beyond, b"-", b"b");
+fn print_marks(rt: &impl Print, record: bool, array: bool, beyond: bool) -> io::Result<()> {
+    show::print_choice(rt, record, b" -", b" r")?;
+    show::print_choice(rt, array, b"-", b"a")?;
+    show::print_choice(rt, beyond, b"-", b"b")
 }
 
 // One transaction by value, on a response of 55s.
@@ -130,20 +131,30 @@ fn second(e: Device, b: &mut [u8], sent: &[u8], pulses: u32, w: bool, s: &mut [u
 }
 
 // Prints what the first entry did: `before` and `b` are the record and the array as they were.
-fn print_done(before: Device, x: Done, a: &[u8], b: &[u8], n: usize, r: &[u8]) {
+fn print_done(
+    rt: &impl Print,
+    before: Device,
+    x: Done,
+    a: &[u8],
+    b: &[u8],
+    n: usize,
+    r: &[u8],
+) -> io::Result<()> {
     let after = x.device;
     let answer = x.answer;
-    print_answer(answer);
-    text::print_front(r, n);
+    print_answer(rt, answer)?;
+    text::print_front(rt, r, n)?;
     print_marks(
+        rt,
         same_record(before, after),
-        check::same(a, b),
+        show::same(a, b),
         show::all_are(r, n, 0x55),
-    );
+    )
 }
 
 // One transaction by value, printed. `b` is the array as it was before.
 fn printed(
+    rt: &impl Print,
     d: Device,
     a: &mut [u8],
     b: &[u8],
@@ -151,10 +162,10 @@ fn printed(
     pulses: u32,
     w: bool,
     r: &mut [u8],
-) -> Done {
+) -> io::Result<Done> {
     let x = first(d, a, sent, pulses, w, r);
-    print_done(d, x, a, b, sent.len(), r);
-    x
+    print_done(rt, d, x, a, b, sent.len(), r)?;
+    Ok(x)
 }
 
 // Both records afterwards, and whether all was the same.
@@ -164,7 +175,7 @@ fn compare(same: bool, x: Done, y: Done, a: &[u8], b: &[u8], r: &[u8], s: &[u8])
     let answer = x.answer;
     let other = y.answer;
     let numbers = same_answer(answer, other) & same_record(by_value, lent);
-    let bytes = check::same(a, b) & check::same(r, s);
+    let bytes = show::same(a, b) & show::same(r, s);
     Two {
         by_value,
         lent,
@@ -191,6 +202,7 @@ fn compared(
 
 // One transaction through both entries. Until the second entry runs, its array is what the first one's was before.
 pub(crate) fn exchange(
+    rt: &impl Print,
     t: Two,
     a: &mut [u8],
     b: &mut [u8],
@@ -199,15 +211,16 @@ pub(crate) fn exchange(
     w: bool,
     r: &mut [u8],
     s: &mut [u8],
-) -> Two {
+) -> io::Result<Two> {
     let d = t.by_value;
     let e = t.lent;
-    let x = printed(d, a, b, sent, pulses, w, r);
-    compared(t.same, x, e, a, b, sent, pulses, w, r, s)
+    let x = printed(rt, d, a, b, sent, pulses, w, r)?;
+    Ok(compared(t.same, x, e, a, b, sent, pulses, w, r, s))
 }
 
 // A transaction of a script: its bytes are read into `sent`.
 fn send(
+    rt: &impl Print,
     t: Two,
     script: &[u8],
     at: usize,
@@ -217,15 +230,16 @@ fn send(
     sent: &mut [u8],
     r: &mut [u8],
     s: &mut [u8],
-) -> Two {
+) -> io::Result<Two> {
     let w = byte_at(script, text::after(at, 2)) == b'1';
     let pulses = text::digit(byte_at(script, text::after(at, 4)));
     let n = text::read_bytes(script, text::after(at, 6), end, sent);
-    exchange(t, a, b, slices::front(sent, n), pulses as u32, w, r, s)
+    exchange(rt, t, a, b, slices::front(sent, n), pulses as u32, w, r, s)
 }
 
 // A transaction of 261 bytes.
 fn send_long(
+    rt: &impl Print,
     t: Two,
     script: &[u8],
     at: usize,
@@ -233,14 +247,14 @@ fn send_long(
     b: &mut [u8],
     r: &mut [u8],
     s: &mut [u8],
-) -> Two {
+) -> io::Result<Two> {
     let w = byte_at(script, text::after(at, 2)) == b'1';
     let pulses = text::digit(byte_at(script, text::after(at, 4)));
     let mut sent = [0; 261];
     slices::fill(&mut sent, text::pair_at(script, text::after(at, 17)));
     text::read_bytes(script, text::after(at, 6), text::after(at, 16), &mut sent);
     sent[260] = text::pair_at(script, text::after(at, 20));
-    exchange(t, a, b, &sent, pulses as u32, w, r, s)
+    exchange(rt, t, a, b, &sent, pulses as u32, w, r, s)
 }
 
 // A record that runs no cycle with other settings and another latch, in standby.
@@ -267,34 +281,36 @@ fn set(t: Two, script: &[u8], at: usize, a: &mut [u8], b: &mut [u8]) -> Two {
 }
 
 // Prints an array byte.
-pub(crate) fn print_byte(array: &[u8], at: usize) {
-    io::write_all(1, b" ");
-    io::print_hex(1, at as u64, 6);
-    io::write_all(1, b" is ");
-    io::print_hex(1, show::wide(byte_at(array, at)), 2);
+pub(crate) fn print_byte(rt: &impl Print, array: &[u8], at: usize) -> io::Result<()> {
+    rt.write_all(b" ")?;
+    print!(rt; "{at:06x}")?;
+    rt.write_all(b" is ")?;
+    print!(rt; "{:02x}", byte_at(array, at))
 }
 
 // Prints the status byte and the mode.
-fn print_status(d: Device) {
-    io::write_all(1, b" status ");
-    io::print_hex(1, show::wide(d.status()), 2);
+fn print_status(rt: &impl Print, d: Device) -> io::Result<()> {
+    rt.write_all(b" status ")?;
+    print!(rt; "{:02x}", d.status())?;
     let mode = d.mode;
     match mode {
         Mode::Standby => {
-            io::write_all(1, b" standby");
+            rt.write_all(b" standby")?;
         }
         Mode::Busy(left) => {
-            io::write_all(1, b" busy");
-            show::print_number(left as u64);
+            rt.write_all(b" busy")?;
+            show::print_number(rt, left as u64)?;
         }
         Mode::Deep => {
-            io::write_all(1, b" deep");
+            rt.write_all(b" deep")?;
         }
     }
+    Ok(())
 }
 
 // One step of a script, from `at` to `end`.
 fn step(
+    rt: &impl Print,
     t: Two,
     script: &[u8],
     at: usize,
@@ -304,42 +320,43 @@ fn step(
     sent: &mut [u8],
     r: &mut [u8],
     s: &mut [u8],
-) -> Two {
+) -> io::Result<Two> {
     let letter = byte_at(script, at);
     if letter == b'x' {
-        return send(t, script, at, end, a, b, sent, r, s);
+        return send(rt, t, script, at, end, a, b, sent, r, s);
     }
     if letter == b'y' {
-        return send_long(t, script, at, a, b, r, s);
+        return send_long(rt, t, script, at, a, b, r, s);
     }
     if letter == b'w' {
         let ticks = text::digit(byte_at(script, text::after(at, 2)));
-        return timed(b" wait", t, Passing::Wait(ticks), a, b);
+        return timed(rt, b" wait", t, Passing::Wait(ticks), a, b);
     }
     if letter == b'p' {
-        return timed(b" power", t, Passing::PowerUp, a, b);
+        return timed(rt, b" power", t, Passing::PowerUp, a, b);
     }
     if letter == b'l' {
         let mask = text::pair_at(script, text::after(at, 2));
         let yes = byte_at(script, text::after(at, 5)) == b'1';
-        return timed(b" loss", t, Passing::Loss { mask, yes }, a, b);
+        return timed(rt, b" loss", t, Passing::Loss { mask, yes }, a, b);
     }
     if letter == b'=' {
-        return set(t, script, at, a, b);
+        return Ok(set(t, script, at, a, b));
     }
     if letter == b'a' {
-        print_byte(a, text::address_at(script, text::after(at, 2)));
-        return t;
+        print_byte(rt, a, text::address_at(script, text::after(at, 2)))?;
+        return Ok(t);
     }
     if letter == b's' {
-        print_status(t.by_value);
-        return t;
+        print_status(rt, t.by_value)?;
+        return Ok(t);
     }
-    t
+    Ok(t)
 }
 
 // The steps of a script, 40 at most.
 fn steps(
+    rt: &impl Print,
     start: Two,
     script: &[u8],
     a: &mut [u8],
@@ -347,33 +364,39 @@ fn steps(
     sent: &mut [u8],
     r: &mut [u8],
     s: &mut [u8],
-) -> Two {
+) -> io::Result<Two> {
     let mut t = start;
     let mut at = 0;
     let mut turns = 40u64;
     while turns > 0 {
         let end = text::stop(script, at);
-        t = step(t, script, at, end, a, b, sent, r, s);
+        t = step(rt, t, script, at, end, a, b, sent, r, s)?;
         at = text::after(end, 1);
         turns -= 1;
     }
-    t
+    Ok(t)
 }
 
 // Prints the name, and delivers a part to both entries with durations 3, 5, 9, 2 and the latch set.
-pub(crate) fn begin(name: &[u8], part: u32, a: &mut [u8], b: &mut [u8]) -> Two {
-    io::write_all(1, name);
+pub(crate) fn begin(
+    rt: &impl Print,
+    name: &[u8],
+    part: u32,
+    a: &mut [u8],
+    b: &mut [u8],
+) -> io::Result<Two> {
+    rt.write_all(name)?;
     let x = chip::deliver(part, a, 3, 5, 9, 2);
     let y = chip::deliver(part, b, 3, 5, 9, 2);
     let d = x.device;
     let e = y.device;
     let by_value = d.latched(true);
     let lent = e.latched(true);
-    Two {
+    Ok(Two {
         by_value,
         lent,
         same: (x.answer == 0) & (y.answer == 0),
-    }
+    })
 }
 
 // Back to standby with the latch set, a cycle that runs completed.
@@ -391,16 +414,23 @@ pub(crate) fn ready(t: Two, a: &mut [u8], b: &mut [u8]) -> Two {
 }
 
 // Ends the line.
-pub(crate) fn finish(t: Two) {
-    show::print_choice(t.same, b" same\n", b" differ\n");
+pub(crate) fn finish(rt: &impl Print, t: Two) -> io::Result<()> {
+    show::print_choice(rt, t.same, b" same\n", b" differ\n")
 }
 
 // A whole case on a part whose array is lent twice.
-pub(crate) fn case(name: &[u8], part: u32, a: &mut [u8], b: &mut [u8], script: &[u8]) {
+pub(crate) fn case(
+    rt: &impl Print,
+    name: &[u8],
+    part: u32,
+    a: &mut [u8],
+    b: &mut [u8],
+    script: &[u8],
+) -> io::Result<()> {
     let mut sent = [0; 32];
     let mut r = [0; 300];
     let mut s = [0; 300];
-    let start = begin(name, part, a, b);
-    let t = steps(start, script, a, b, &mut sent, &mut r, &mut s);
-    finish(t);
+    let start = begin(rt, name, part, a, b)?;
+    let t = steps(rt, start, script, a, b, &mut sent, &mut r, &mut s)?;
+    finish(rt, t)
 }

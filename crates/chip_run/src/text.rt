@@ -1,6 +1,7 @@
 // Small total functions that read a script's digits and print the front of a slice.
 use show::print_bytes;
 use slices::{byte_at, front, least};
+use std::io;
 
 // The value of a hexadecimal digit in capitals.
 pub(crate) fn digit(c: u8) -> u8 {
@@ -68,14 +69,15 @@ pub(crate) fn read_bytes(s: &[u8], from: usize, end: usize, out: &mut [u8]) -> u
 }
 
 // Prints the first `n` bytes in hexadecimal: a dash where there are none, and 16 with two dots where there are more.
-pub(crate) fn print_front(s: &[u8], n: usize) {
+pub(crate) fn print_front(rt: &impl Print, s: &[u8], n: usize) -> io::Result<()> {
     let count = least(n, s.len());
     if count == 0 {
-        io::write_all(1, b"-");
-        return;
+        rt.write_all(b"-")?;
+        return Ok(());
     }
-    print_bytes(front(s, least(count, 16)));
+    print_bytes(rt, front(s, least(count, 16)))?;
     if 16 < count {
-        io::write_all(1, b"..");
+        rt.write_all(b"..")?;
     }
+    Ok(())
 }

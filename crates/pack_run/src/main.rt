@@ -1,13 +1,15 @@
 // Packs and unpacks records of each part and mode, and records and bytes that are refused, and writes the answers and the bytes.
 #![tactic(auto)]
+
 use device::cycle::{Cycle, Kind};
 use device::locks::REGISTERS;
 use device::packing::LENGTH;
 use device::{Device, Mode, packing};
+use std::io;
 
 // Prints a space and an answer.
-fn print_answer(n: u8) {
-    show::print_number(show::wide(n));
+fn print_answer(rt: &impl Print, n: u8) -> io::Result<()> {
+    show::print_number(rt, show::wide(n))
 }
 
 // A record with durations 1,000,000, 1, 258 and 65,536.
@@ -85,41 +87,42 @@ fn naming() -> Device {
 }
 
 // Prints slots; those that are all the same byte as that byte and two dots.
-fn print_slots(slots: &[u8]) {
+fn print_slots(rt: &impl Print, slots: &[u8]) -> io::Result<()> {
     let first = slices::byte_at(slots, 0);
-    io::write_all(1, b" ");
+    rt.write_all(b" ")?;
     if show::all_are(slots, 0, first) {
-        io::print_hex(1, show::wide(first), 2);
-        io::write_all(1, b"..");
+        print!(rt; "{first:02x}")?;
+        rt.write_all(b"..")?;
     } else {
-        show::print_bytes(slots);
+        show::print_bytes(rt, slots)?;
     }
+    Ok(())
 }
 
 // Prints a packing: 36 bytes, the slots, and what stands behind them.
-fn print_packing(bytes: &[u8]) {
+fn print_packing(rt: &impl Print, bytes: &[u8]) -> io::Result<()> {
     let from = slices::least(36, bytes.len());
     let behind = slices::least(292, bytes.len());
-    io::write_all(1, b" ");
-    show::print_bytes(slices::front(bytes, 36));
-    print_slots(&bytes[from..behind]);
-    io::write_all(1, b" ");
-    show::print_bytes(&bytes[behind..]);
+    rt.write_all(b" ")?;
+    show::print_bytes(rt, slices::front(bytes, 36))?;
+    print_slots(rt, &bytes[from..behind])?;
+    rt.write_all(b" ")?;
+    show::print_bytes(rt, &bytes[behind..])
 }
 
 // Packs a record over bytes of 55, unpacks the bytes and packs what came: the three answers, the bytes, and whether both packings are the same.
-fn round(name: &[u8], d: Device) {
+fn round(rt: &impl Print, name: &[u8], d: Device) -> io::Result<()> {
     let mut bytes = [0x55; LENGTH];
     let mut again = [0; LENGTH];
     let p = packing::pack(d, &mut bytes);
     let u = packing::unpack(&bytes);
     let q = packing::pack(u.device, &mut again);
-    io::write_all(1, name);
-    print_answer(p);
-    print_answer(u.answer);
-    print_answer(q);
-    print_packing(&bytes);
-    show::print_choice(check::same(&bytes, &again), b" same\n", b" differ\n");
+    rt.write_all(name)?;
+    print_answer(rt, p)?;
+    print_answer(rt, u.answer)?;
+    print_answer(rt, q)?;
+    print_packing(rt, &bytes)?;
+    show::print_choice(rt, show::same(&bytes, &again), b" same\n", b" differ\n")
 }
 
 // Packs a record into a buffer of 55s.
@@ -129,18 +132,18 @@ fn pack_over(d: Device, out: &mut [u8]) -> u8 {
 }
 
 // The same, and prints the answer and the buffer afterwards.
-fn pack_into(name: &[u8], d: Device, out: &mut [u8]) {
+fn pack_into(rt: &impl Print, name: &[u8], d: Device, out: &mut [u8]) -> io::Result<()> {
     let p = pack_over(d, out);
-    io::write_all(1, name);
-    print_answer(p);
-    print_packing(out);
-    io::write_all(1, b"\n");
+    rt.write_all(name)?;
+    print_answer(rt, p)?;
+    print_packing(rt, out)?;
+    rt.write_all(b"\n")
 }
 
 // Packs a record into as many bytes as a packing has.
-fn pack_whole(name: &[u8], d: Device) {
+fn pack_whole(rt: &impl Print, name: &[u8], d: Device) -> io::Result<()> {
     let mut out = [0; LENGTH];
-    pack_into(name, d, &mut out);
+    pack_into(rt, name, d, &mut out)
 }
 
 // One byte set, where there is one.
@@ -194,251 +197,297 @@ fn is_zero(d: Device) -> bool {
 }
 
 // Unpacks bytes: the answer, the answer that packing the record handed back gives, and whether it is the all-zero one.
-fn unpack_from(name: &[u8], bytes: &[u8]) {
+fn unpack_from(rt: &impl Print, name: &[u8], bytes: &[u8]) -> io::Result<()> {
     let mut out = [0; LENGTH];
     let u = packing::unpack(bytes);
     let d = u.device;
     let p = packing::pack(d, &mut out);
-    io::write_all(1, name);
-    print_answer(u.answer);
-    print_answer(p);
-    show::print_choice(is_zero(d), b" zero\n", b" given\n");
+    rt.write_all(name)?;
+    print_answer(rt, u.answer)?;
+    print_answer(rt, p)?;
+    show::print_choice(rt, is_zero(d), b" zero\n", b" given\n")
 }
 
 // Unpacks a record's bytes after one of them was set.
-fn damaged(name: &[u8], d: Device, at: usize, v: u8) {
+fn damaged(rt: &impl Print, name: &[u8], d: Device, at: usize, v: u8) -> io::Result<()> {
     let mut bytes = [0; LENGTH];
     packing::pack(d, &mut bytes);
     put(&mut bytes, at, v);
-    unpack_from(name, &bytes);
+    unpack_from(rt, name, &bytes)
 }
 
 // Records that are sound: 0 three times, the bytes by document 01's layout.
-fn sound_ones() {
+fn sound_ones(rt: &impl Print) -> io::Result<()> {
     // part, BP, SRWD, latch, mode, three zero bytes, ticks left, four durations: 1,000,000 is 40 42 0F 00; then the cycle's kind, new BP and SRWD, a zero byte, its address, its slots, how many bytes a page write named, eight lock registers
-    round(b"bench-standby", standby());
-    round(b"M25P10-A-standby", record(1, 3, true, true, Mode::Standby));
-    round(b"M25P40-busy", busy());
-    round(b"M25P32-deep", deep());
-    // 66,051 ticks are 03 02 01 00
-    round(b"M25P128-writing", writing());
-    round(b"bench-last-tick", last_tick());
-    round(b"bench-programming", programming());
-    round(b"bench-deep", record(0, 1, false, false, Mode::Deep));
+    round(rt, b"bench-standby", standby())?;
     round(
+        rt,
+        b"M25P10-A-standby",
+        record(1, 3, true, true, Mode::Standby),
+    )?;
+    round(rt, b"M25P40-busy", busy())?;
+    round(rt, b"M25P32-deep", deep())?;
+    // 66,051 ticks are 03 02 01 00
+    round(rt, b"M25P128-writing", writing())?;
+    round(rt, b"bench-last-tick", last_tick())?;
+    round(rt, b"bench-programming", programming())?;
+    round(rt, b"bench-deep", record(0, 1, false, false, Mode::Deep))?;
+    round(
+        rt,
         b"M25P10-A-older-deep",
         record(5, 3, true, false, Mode::Deep),
-    );
+    )
 }
 
 // Those of the M25PE40, kinds 5 to 7 among them.
-fn sound_m25pe40s() {
-    round(b"M25PE40-locked", locked());
-    round(b"M25PE40-page-write", page_writing(3));
+fn sound_m25pe40s(rt: &impl Print) -> io::Result<()> {
+    round(rt, b"M25PE40-locked", locked())?;
+    round(rt, b"M25PE40-page-write", page_writing(3))?;
     // a page and a subsector, each by its last address
     round(
+        rt,
         b"M25PE40-page-erase",
         erasing(6, Kind::PageErase, 0x07_FFFF),
-    );
+    )?;
     round(
+        rt,
         b"M25PE40-subsector-erase",
         erasing(6, Kind::Subsector, 0x1FFF),
-    );
+    )
 }
 
 // Records that are not sound, and buffers of another length: 6, and 8 before it, with nothing written.
-fn refused_packs() {
-    pack_whole(b"pack-zero", Device::zero());
-    pack_whole(b"pack-part-7", record(7, 0, false, false, Mode::Standby));
-    pack_whole(b"pack-bp-4", record(0, 4, false, false, Mode::Standby));
+fn refused_packs(rt: &impl Print) -> io::Result<()> {
+    pack_whole(rt, b"pack-zero", Device::zero())?;
     pack_whole(
+        rt,
+        b"pack-part-7",
+        record(7, 0, false, false, Mode::Standby),
+    )?;
+    pack_whole(rt, b"pack-bp-4", record(0, 4, false, false, Mode::Standby))?;
+    pack_whole(
+        rt,
         b"pack-busy-latch-reset",
         running(0, 0, false, Cycle::all(), 2).latched(false),
-    );
+    )?;
     pack_whole(
+        rt,
         b"pack-last-tick-latch-set",
         running(0, 0, false, Cycle::all(), 1).latched(true),
-    );
-    pack_whole(b"pack-ticks-0", running(0, 0, false, Cycle::all(), 0));
+    )?;
+    pack_whole(rt, b"pack-ticks-0", running(0, 0, false, Cycle::all(), 0))?;
     pack_whole(
+        rt,
         b"pack-ticks-1000001",
         running(0, 0, false, Cycle::all(), 1_000_001),
-    );
-    pack_whole(b"pack-M25P128-deep", record(4, 0, false, false, Mode::Deep));
+    )?;
+    pack_whole(
+        rt,
+        b"pack-M25P128-deep",
+        record(4, 0, false, false, Mode::Deep),
+    )?;
     // busy without a cycle, a cycle outside one, an address and a BP that the part has not
     pack_whole(
+        rt,
         b"pack-busy-no-cycle",
         record(0, 0, false, true, Mode::Busy(2)),
-    );
+    )?;
     pack_whole(
+        rt,
         b"pack-idle-cycle",
         running(0, 0, false, Cycle::all(), 2).moded(false, Mode::Standby),
-    );
+    )?;
     pack_whole(
+        rt,
         b"pack-address-4096",
         running(0, 0, false, Cycle::erase(Kind::Sector, 4096), 2),
-    );
+    )?;
     pack_whole(
+        rt,
         b"pack-new-bp-4",
         running(0, 0, false, Cycle::settings(false, 4), 2),
-    );
+    )?;
     let mut short = [0; LENGTH - 1];
     let mut long = [0; LENGTH + 1];
-    pack_into(b"pack-short", standby(), &mut short);
-    pack_into(b"pack-long", standby(), &mut long);
-    pack_into(b"pack-short-not-sound", Device::zero(), &mut short);
+    pack_into(rt, b"pack-short", standby(), &mut short)?;
+    pack_into(rt, b"pack-long", standby(), &mut long)?;
+    pack_into(rt, b"pack-short-not-sound", Device::zero(), &mut short)
 }
 
 // The same of lock registers, of the bytes that a page write named, and of the kinds 5 to 7: 6.
-fn refused_m25pe40s() {
+fn refused_m25pe40s(rt: &impl Print) -> io::Result<()> {
     // a register above 3, and one that another part has not
-    pack_whole(b"pack-lock-4", locked().locked([0, 0, 0, 4, 0, 0, 0, 0]));
     pack_whole(
+        rt,
+        b"pack-lock-4",
+        locked().locked([0, 0, 0, 4, 0, 0, 0, 0]),
+    )?;
+    pack_whole(
+        rt,
         b"pack-M25P40-lock",
         record(2, 0, false, false, Mode::Standby).locked([1, 0, 0, 0, 0, 0, 0, 0]),
-    );
+    )?;
     // 1 to 256 bytes are named by a page write, none by a program
-    pack_whole(b"pack-named-0", page_writing(0));
-    pack_whole(b"pack-named-257", page_writing(257));
-    pack_whole(b"pack-program-named", naming());
+    pack_whole(rt, b"pack-named-0", page_writing(0))?;
+    pack_whole(rt, b"pack-named-257", page_writing(257))?;
+    pack_whole(rt, b"pack-program-named", naming())?;
     // the M25P40 has none of the three kinds
     pack_whole(
+        rt,
         b"pack-M25P40-page-write",
         running(2, 0, false, Cycle::write(0, [0; 256], 1), 2),
-    );
-    pack_whole(b"pack-M25P40-page-erase", erasing(2, Kind::PageErase, 0));
+    )?;
     pack_whole(
+        rt,
+        b"pack-M25P40-page-erase",
+        erasing(2, Kind::PageErase, 0),
+    )?;
+    pack_whole(
+        rt,
         b"pack-M25P40-subsector-erase",
         erasing(2, Kind::Subsector, 0),
-    );
+    )
 }
 
 // Bytes that are not the packing of a sound record: 6 with the all-zero record. Where the changed byte gives another sound record: 0.
-fn damaged_in_standby() {
-    damaged(b"part-7", standby(), 0, 7);
-    damaged(b"part-6", standby(), 0, 6);
-    damaged(b"part-5", standby(), 0, 5);
-    damaged(b"bp-4", standby(), 1, 4);
-    damaged(b"bp-3", standby(), 1, 3);
-    damaged(b"srwd-2", standby(), 2, 2);
-    damaged(b"srwd-1", standby(), 2, 1);
-    damaged(b"latch-2", standby(), 3, 2);
-    damaged(b"latch-255", standby(), 3, 255);
-    damaged(b"mode-3", standby(), 4, 3);
-    damaged(b"mode-1-without-ticks", standby(), 4, 1);
-    damaged(b"mode-2", standby(), 4, 2);
-    damaged(b"padding-5", standby(), 5, 1);
-    damaged(b"padding-6", standby(), 6, 1);
-    damaged(b"padding-7", standby(), 7, 128);
-    damaged(b"ticks-in-standby", standby(), 8, 1);
-    damaged(b"high-ticks-in-standby", standby(), 11, 1);
+fn damaged_in_standby(rt: &impl Print) -> io::Result<()> {
+    damaged(rt, b"part-7", standby(), 0, 7)?;
+    damaged(rt, b"part-6", standby(), 0, 6)?;
+    damaged(rt, b"part-5", standby(), 0, 5)?;
+    damaged(rt, b"bp-4", standby(), 1, 4)?;
+    damaged(rt, b"bp-3", standby(), 1, 3)?;
+    damaged(rt, b"srwd-2", standby(), 2, 2)?;
+    damaged(rt, b"srwd-1", standby(), 2, 1)?;
+    damaged(rt, b"latch-2", standby(), 3, 2)?;
+    damaged(rt, b"latch-255", standby(), 3, 255)?;
+    damaged(rt, b"mode-3", standby(), 4, 3)?;
+    damaged(rt, b"mode-1-without-ticks", standby(), 4, 1)?;
+    damaged(rt, b"mode-2", standby(), 4, 2)?;
+    damaged(rt, b"padding-5", standby(), 5, 1)?;
+    damaged(rt, b"padding-6", standby(), 6, 1)?;
+    damaged(rt, b"padding-7", standby(), 7, 128)?;
+    damaged(rt, b"ticks-in-standby", standby(), 8, 1)?;
+    damaged(rt, b"high-ticks-in-standby", standby(), 11, 1)
 }
 
 // The same of durations, ticks left and modes.
-fn damaged_numbers() {
-    damaged(b"program-1000001", standby(), 12, 0x41);
-    damaged(b"program-999999", standby(), 12, 0x3F);
-    damaged(b"sector-erase-0", standby(), 16, 0);
-    damaged(b"bulk-erase-high-byte", standby(), 23, 1);
-    damaged(b"write-status-0", standby(), 26, 0);
-    damaged(b"ticks-1000001", busy(), 8, 0x41);
-    damaged(b"ticks-999999", busy(), 8, 0x3F);
-    damaged(b"busy-latch-reset", busy(), 3, 0);
-    damaged(b"last-tick-latch-set", last_tick(), 3, 1);
-    damaged(b"last-tick-and-one-more", last_tick(), 8, 2);
-    damaged(b"ticks-and-mode-0", busy(), 4, 0);
-    damaged(b"ticks-and-mode-2", busy(), 4, 2);
-    damaged(b"ticks-in-deep", deep(), 9, 1);
-    damaged(b"deep-M25P128", deep(), 0, 4);
-    damaged(b"deep-M25P40", deep(), 0, 2);
+fn damaged_numbers(rt: &impl Print) -> io::Result<()> {
+    damaged(rt, b"program-1000001", standby(), 12, 0x41)?;
+    damaged(rt, b"program-999999", standby(), 12, 0x3F)?;
+    damaged(rt, b"sector-erase-0", standby(), 16, 0)?;
+    damaged(rt, b"bulk-erase-high-byte", standby(), 23, 1)?;
+    damaged(rt, b"write-status-0", standby(), 26, 0)?;
+    damaged(rt, b"ticks-1000001", busy(), 8, 0x41)?;
+    damaged(rt, b"ticks-999999", busy(), 8, 0x3F)?;
+    damaged(rt, b"busy-latch-reset", busy(), 3, 0)?;
+    damaged(rt, b"last-tick-latch-set", last_tick(), 3, 1)?;
+    damaged(rt, b"last-tick-and-one-more", last_tick(), 8, 2)?;
+    damaged(rt, b"ticks-and-mode-0", busy(), 4, 0)?;
+    damaged(rt, b"ticks-and-mode-2", busy(), 4, 2)?;
+    damaged(rt, b"ticks-in-deep", deep(), 9, 1)?;
+    damaged(rt, b"deep-M25P128", deep(), 0, 4)?;
+    damaged(rt, b"deep-M25P40", deep(), 0, 2)
 }
 
 // The same of the cycle: outside one, of each kind, and of no kind.
-fn damaged_cycles() {
-    damaged(b"idle-kind", standby(), 28, 3);
-    damaged(b"idle-bp", standby(), 29, 1);
-    damaged(b"idle-srwd", standby(), 30, 1);
-    damaged(b"idle-padding", standby(), 31, 1);
-    damaged(b"idle-address", standby(), 32, 1);
-    damaged(b"idle-slot", standby(), 291, 1);
-    damaged(b"deep-kind", deep(), 28, 1);
-    damaged(b"no-kind", busy(), 28, 0);
-    damaged(b"kind-5", busy(), 28, 5);
-    damaged(b"kind-8", busy(), 28, 8);
-    damaged(b"bulk-as-sector", busy(), 28, 2);
-    damaged(b"bulk-bp", busy(), 29, 1);
-    damaged(b"bulk-address", busy(), 34, 1);
-    damaged(b"bulk-slot", busy(), 163, 1);
-    damaged(b"sector-4095", last_tick(), 33, 0x0F);
-    damaged(b"sector-above", last_tick(), 33, 0x10);
-    damaged(b"sector-high-byte", last_tick(), 35, 1);
-    damaged(b"program-slot", programming(), 36, 0);
-    damaged(b"program-srwd", programming(), 30, 1);
-    damaged(b"program-as-sector", programming(), 28, 2);
-    damaged(b"settings-bp-7", writing(), 29, 7);
-    damaged(b"settings-bp-8", writing(), 29, 8);
-    damaged(b"settings-srwd-2", writing(), 30, 2);
-    damaged(b"settings-padding", writing(), 31, 1);
+fn damaged_cycles(rt: &impl Print) -> io::Result<()> {
+    damaged(rt, b"idle-kind", standby(), 28, 3)?;
+    damaged(rt, b"idle-bp", standby(), 29, 1)?;
+    damaged(rt, b"idle-srwd", standby(), 30, 1)?;
+    damaged(rt, b"idle-padding", standby(), 31, 1)?;
+    damaged(rt, b"idle-address", standby(), 32, 1)?;
+    damaged(rt, b"idle-slot", standby(), 291, 1)?;
+    damaged(rt, b"deep-kind", deep(), 28, 1)?;
+    damaged(rt, b"no-kind", busy(), 28, 0)?;
+    damaged(rt, b"kind-5", busy(), 28, 5)?;
+    damaged(rt, b"kind-8", busy(), 28, 8)?;
+    damaged(rt, b"bulk-as-sector", busy(), 28, 2)?;
+    damaged(rt, b"bulk-bp", busy(), 29, 1)?;
+    damaged(rt, b"bulk-address", busy(), 34, 1)?;
+    damaged(rt, b"bulk-slot", busy(), 163, 1)?;
+    damaged(rt, b"sector-4095", last_tick(), 33, 0x0F)?;
+    damaged(rt, b"sector-above", last_tick(), 33, 0x10)?;
+    damaged(rt, b"sector-high-byte", last_tick(), 35, 1)?;
+    damaged(rt, b"program-slot", programming(), 36, 0)?;
+    damaged(rt, b"program-srwd", programming(), 30, 1)?;
+    damaged(rt, b"program-as-sector", programming(), 28, 2)?;
+    damaged(rt, b"settings-bp-7", writing(), 29, 7)?;
+    damaged(rt, b"settings-bp-8", writing(), 29, 8)?;
+    damaged(rt, b"settings-srwd-2", writing(), 30, 2)?;
+    damaged(rt, b"settings-padding", writing(), 31, 1)
 }
 
 // The same of lock registers and of the kinds 5 to 7, which the M25PE40 alone has.
-fn damaged_m25pe40s() {
-    damaged(b"lock-4", locked(), 296, 4);
-    damaged(b"lock-3", locked(), 296, 3);
-    damaged(b"lock-128", locked(), 303, 128);
-    damaged(b"locks-on-M25P40", locked(), 0, 2);
-    damaged(b"lock-on-M25P40", busy(), 303, 1);
-    damaged(b"lock-busy", page_writing(3), 303, 0);
-    damaged(b"page-write-on-M25P40", page_writing(3), 0, 2);
-    damaged(b"page-write-slot", page_writing(3), 37, 0);
-    damaged(b"page-write-above", page_writing(3), 34, 8);
-    damaged(b"page-write-as-page-erase", page_writing(3), 28, 6);
-    damaged(b"page-write-as-program", page_writing(3), 28, 1);
+fn damaged_m25pe40s(rt: &impl Print) -> io::Result<()> {
+    damaged(rt, b"lock-4", locked(), 296, 4)?;
+    damaged(rt, b"lock-3", locked(), 296, 3)?;
+    damaged(rt, b"lock-128", locked(), 303, 128)?;
+    damaged(rt, b"locks-on-M25P40", locked(), 0, 2)?;
+    damaged(rt, b"lock-on-M25P40", busy(), 303, 1)?;
+    damaged(rt, b"lock-busy", page_writing(3), 303, 0)?;
+    damaged(rt, b"page-write-on-M25P40", page_writing(3), 0, 2)?;
+    damaged(rt, b"page-write-slot", page_writing(3), 37, 0)?;
+    damaged(rt, b"page-write-above", page_writing(3), 34, 8)?;
+    damaged(rt, b"page-write-as-page-erase", page_writing(3), 28, 6)?;
+    damaged(rt, b"page-write-as-program", page_writing(3), 28, 1)?;
     let erase = erasing(6, Kind::PageErase, 0);
-    damaged(b"page-erase-as-subsector", erase, 28, 7);
-    damaged(b"page-erase-as-sector", erase, 28, 2);
-    damaged(b"page-erase-as-page-write", erase, 28, 5);
-    damaged(b"page-erase-on-M25P40", erase, 0, 2);
-    damaged(b"sector-as-page-erase", erasing(2, Kind::Sector, 0), 28, 6);
-    damaged(b"sector-as-subsector", erasing(2, Kind::Sector, 0), 28, 7);
+    damaged(rt, b"page-erase-as-subsector", erase, 28, 7)?;
+    damaged(rt, b"page-erase-as-sector", erase, 28, 2)?;
+    damaged(rt, b"page-erase-as-page-write", erase, 28, 5)?;
+    damaged(rt, b"page-erase-on-M25P40", erase, 0, 2)?;
+    damaged(
+        rt,
+        b"sector-as-page-erase",
+        erasing(2, Kind::Sector, 0),
+        28,
+        6,
+    )?;
+    damaged(
+        rt,
+        b"sector-as-subsector",
+        erasing(2, Kind::Sector, 0),
+        28,
+        7,
+    )
 }
 
 // The same of how many bytes were named: 1 to 256 of a page write, else 0.
-fn damaged_named() {
-    damaged(b"named-0", page_writing(3), 292, 0);
-    damaged(b"named-1", page_writing(3), 292, 1);
-    damaged(b"named-256", page_writing(256), 292, 0);
-    damaged(b"named-257", page_writing(256), 292, 1);
-    damaged(b"named-high-byte", page_writing(3), 295, 1);
-    damaged(b"named-in-standby", standby(), 292, 1);
-    damaged(b"named-in-program", programming(), 292, 1);
+fn damaged_named(rt: &impl Print) -> io::Result<()> {
+    damaged(rt, b"named-0", page_writing(3), 292, 0)?;
+    damaged(rt, b"named-1", page_writing(3), 292, 1)?;
+    damaged(rt, b"named-256", page_writing(256), 292, 0)?;
+    damaged(rt, b"named-257", page_writing(256), 292, 1)?;
+    damaged(rt, b"named-high-byte", page_writing(3), 295, 1)?;
+    damaged(rt, b"named-in-standby", standby(), 292, 1)?;
+    damaged(rt, b"named-in-program", programming(), 292, 1)?;
     damaged(
+        rt,
         b"named-in-page-erase",
         erasing(6, Kind::PageErase, 0),
         292,
         1,
-    );
+    )
 }
 
 // Other lengths: 8, whatever the bytes are.
-fn other_lengths() {
-    unpack_from(b"short", &[0; LENGTH - 1]);
-    unpack_from(b"long", &[0; LENGTH + 1]);
-    unpack_from(b"without-locks", &[0; 292]);
-    unpack_from(b"without-cycle", &[0; 28]);
-    unpack_from(b"empty", b"");
-    unpack_from(b"all-zero", &[0; LENGTH]);
+fn other_lengths(rt: &impl Print) -> io::Result<()> {
+    unpack_from(rt, b"short", &[0; LENGTH - 1])?;
+    unpack_from(rt, b"long", &[0; LENGTH + 1])?;
+    unpack_from(rt, b"without-locks", &[0; 292])?;
+    unpack_from(rt, b"without-cycle", &[0; 28])?;
+    unpack_from(rt, b"empty", b"")?;
+    unpack_from(rt, b"all-zero", &[0; LENGTH])
 }
 
-fn main() {
-    sound_ones();
-    sound_m25pe40s();
-    refused_packs();
-    refused_m25pe40s();
-    damaged_in_standby();
-    damaged_numbers();
-    damaged_cycles();
-    damaged_m25pe40s();
-    damaged_named();
-    other_lengths();
+fn main(rt: HostRuntime) -> io::Result<()> {
+    sound_ones(&rt)?;
+    sound_m25pe40s(&rt)?;
+    refused_packs(&rt)?;
+    refused_m25pe40s(&rt)?;
+    damaged_in_standby(&rt)?;
+    damaged_numbers(&rt)?;
+    damaged_cycles(&rt)?;
+    damaged_m25pe40s(&rt)?;
+    damaged_named(&rt)?;
+    other_lengths(&rt)
 }

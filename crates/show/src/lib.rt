@@ -1,6 +1,9 @@
-// What the programs of the gate print: bytes, numbers, and one of two texts; and whether bytes are all the same.
+// What the programs of the gate print: bytes, numbers, and one of two texts; and whether bytes are all the same, or the same as others.
 #![tactic(auto)]
-ghost use Rattle.std.specs.Prelude.{◌≡◌};
+
+ghost use Rattle.std.specs.Prelude.{◌≡◌, true};
+
+use std::io;
 
 // A byte as a number to print.
 pub fn wide(x: u8) -> u64
@@ -10,12 +13,13 @@ pub fn wide(x: u8) -> u64
 }
 
 // Prints bytes in hexadecimal.
-pub fn print_bytes(s: &[u8]) {
+pub fn print_bytes(rt: &impl Print, s: &[u8]) -> io::Result<()> {
     let mut i = 0;
     while i < s.len() {
-        io::print_hex(1, wide(s[i]), 2);
+        print!(rt; "{:02x}", s[i])?;
         i += 1;
     }
+    Ok(())
 }
 
 // Whether each byte from `from` on is `v`.
@@ -30,17 +34,24 @@ pub fn all_are(s: &[u8], from: usize, v: u8) -> bool {
     true
 }
 
+// Whether two runs of bytes are the same.
+pub fn same(a: &[u8], b: &[u8]) -> bool
+    ensures yes { result ≡ true → a.now ≡ b.now }
+    ensures no { a.now ≡ b.now → result ≡ true }
+{
+    a == b
+}
+
 // Prints the first text where a test holds, else the second.
-pub fn print_choice(test: bool, yes: &[u8], no: &[u8]) {
+pub fn print_choice(rt: &impl Print, test: bool, yes: &[u8], no: &[u8]) -> io::Result<()> {
     if test {
-        io::write_all(1, yes);
+        rt.write_all(yes)
     } else {
-        io::write_all(1, no);
+        rt.write_all(no)
     }
 }
 
 // Prints a space and a decimal number.
-pub fn print_number(n: u64) {
-    io::write_all(1, b" ");
-    io::print_decimal(1, n);
+pub fn print_number(rt: &impl Print, n: u64) -> io::Result<()> {
+    print!(rt; " {n}")
 }
