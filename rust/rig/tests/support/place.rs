@@ -75,7 +75,11 @@ impl Place {
             Some(path) => PathBuf::from(path),
             None => root.join("crates/bench/out/bench"),
         };
-        assert!(program.is_file(), "There is no {}: run `rt run` in crates/bench.", program.display());
+        assert!(
+            program.is_file(),
+            "There is no {}: run `rt run` in crates/bench.",
+            program.display()
+        );
         install(&program, &directory.join("crates/bench/out/bench"));
         install(&root.join("bench"), &directory.join("bench"));
         fs::write(directory.join("crates.txt"), "bench:\n").unwrap();
