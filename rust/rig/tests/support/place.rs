@@ -63,7 +63,7 @@ impl Place {
         Some(place)
     }
 
-    /// As it is before the first run.
+    /// As it is before the first run. It has no crates.txt: rt takes one below the top of a checkout for a mistake.
     pub fn unproved(test: &str) -> Option<Place> {
         let real = rt(test)?;
         let directory = scratch(&format!("bench_{test}"));
@@ -82,7 +82,6 @@ impl Place {
         );
         install(&program, &directory.join("crates/bench/out/bench"));
         install(&root.join("bench"), &directory.join("bench"));
-        fs::write(directory.join("crates.txt"), "bench:\n").unwrap();
         let text = directory.join("stand-in/text");
         fs::write(&text, STAND_IN).unwrap();
         install(&text, &directory.join("stand-in/rt"));
