@@ -19,7 +19,10 @@ fn main() {
     let archive = dir.join("libm25p.a");
     println!("cargo::rerun-if-changed={}", archive.display());
     let Ok(found) = archive.canonicalize() else {
-        println!("cargo::error=There is no {}: run `./archive` at the top first.", archive.display());
+        println!(
+            "cargo::error=There is no {}: run `./archive` at the top first.",
+            archive.display()
+        );
         return;
     };
     println!("cargo::metadata=archive={}", found.display());

@@ -52,6 +52,6 @@ module _ {d : Device} {array items responses answers missing : List ℕ} {r : Ch
   pub batch-protects : Armed (chip d array) → low_flags (items_of items) ≡ true → Kept (chip d array) (chip r.device array')
   batch-protects f l = batched-ind (Kept (chip d array)) (hardware-protects.ends (chip d array) f (events_of items) (items-low (items_of items) l)) (kept-none (chip d array))
 
-  -- THEOREM: one batch from a chip whose sector s is write_locked and frozen, whatever the items are
+  -- THEOREM: one batch from a chip whose sector s is write-locked and frozen, whatever the items are
   pub batch-holds : (s : ℕ) → Locked (chip d array) s → Held s (chip d array) (chip r.device array')
   batch-holds s k = batched-ind (Held s (chip d array)) (lock-holds.ends (chip d array) s k (events_of items) (items-go (items_of items))) (record { register = refl; bytes = λ i lt e. refl })

@@ -1,4 +1,4 @@
--- Lock registers: which calls change one, and what a sector is worth that is write_locked and frozen.
+-- Lock registers: which calls change one, and what a sector is worth that is write-locked and frozen.
 -- Assumes nothing.
 use mathlib.Core.Path.{◌≡◌, refl, sym, ap, ◌∙◌}
 use mathlib.Core.Bool.{Bool, true, false, cond, ◌&&◌, ◌||◌, true≢false, false≢true}
@@ -112,7 +112,7 @@ frozen-stays (waits t) c s g h = ap (λ (ls : List ℕ). get_or ls s 0) (wait-lo
 frozen-stays starts c s g h = absurd (false≢true g)
 frozen-stays (loses mask told) c s g h = absurd (false≢true g)
 
--- ---- a sector that is write_locked and frozen
+-- ---- a sector that is write-locked and frozen
 
 -- the remembered cycle does not write in sector s
 abbrev Away : ℕ → Device → Type 0

@@ -9,7 +9,7 @@ use Rattle.chip.specs.Events.{Chip, Good, Event, every, goes_on, run}
 abbrev pub register : Chip → ℕ → ℕ
 register c s = get_or c.device.locks s 0
 
--- a sound record in standby beside an array of the part's length, with the lock register of sector s write_locked and frozen, which only an M25PE part can have
+-- a sound record in standby beside an array of the part's length, with the lock register of sector s write-locked and frozen, which only an M25PE part can have
 pub record Locked (c : Chip) (s : ℕ) : Type 0 where
   pub good : Good c
   pub standby : c.device.mode ≡ Standby

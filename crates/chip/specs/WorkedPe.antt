@@ -16,7 +16,7 @@ pe b s l ls = record { part = 6; bp = b; srwd = s; latch = l; mode = Standby; pr
 abbrev pub usual_pe : Device
 usual_pe = pe 0 false true no_locks
 
--- every sector write_locked and frozen
+-- every sector write-locked and frozen
 abbrev pub all_locked : List ℕ
 all_locked = replicate registers 0x03
 

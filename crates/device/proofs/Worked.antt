@@ -58,7 +58,7 @@ record Worked : Type 0 where
   cut-bulk : (lost (begun all_cycle 9) pattern false).array ≡ 0xFF ∷ 0xFC ∷ 0x3F ∷ []
   -- a page write of the first two bytes: completed, and cut
   page_write : (waited (begun (write_cycle 0 pattern 2) 3) 3).array ≡ 0x3C ∷ 0x3C ∷ 0x0F ∷ []
-  cut_write_case : (lost (begun (write_cycle 0 pattern 2) 3) pattern false).array ≡ 0xFF ∷ 0xFC ∷ 0x0F ∷ []
+  cut-write : (lost (begun (write_cycle 0 pattern 2) 3) pattern false).array ≡ 0xFF ∷ 0xFC ∷ 0x0F ∷ []
   -- a page erase and a subsector erase
   page_erase : (waited (begun (erase_cycle PageErase 1) 3) 3).array ≡ 0xFF ∷ 0xFF ∷ 0xFF ∷ []
   cut_subsector : (lost (begun (erase_cycle Subsector 1) 5) pattern false).array ≡ 0xFF ∷ 0xFC ∷ 0x3F ∷ []
@@ -68,4 +68,4 @@ record Worked : Type 0 where
 
 worked : Worked
 unfolding bench-chip begun delivered no_cycle no_slots no_locks latch_at moded latched settled remembering running started ended waited finished lost after_cycle unlocked powered_up locked status_byte page_cycle write_cycle erase_cycle all_cycle settings_cycle touched cut map_at programmed named replaced erased cut_page cut_write cut_sector figures_of
-worked = record { fresh = refl; enabled = refl; writing = refl; last-write-tick = refl; written = refl; powered = refl; lost-told = refl; lost-not = refl; programming = refl; last-tick = refl; programmed = refl; early = refl; done = refl; cut_program = refl; cut-sector = refl; cut-bulk = refl; page_write = refl; cut_write_case = refl; page_erase = refl; cut_subsector = refl; rested = refl; kept-settings = refl }
+worked = record { fresh = refl; enabled = refl; writing = refl; last-write-tick = refl; written = refl; powered = refl; lost-told = refl; lost-not = refl; programming = refl; last-tick = refl; programmed = refl; early = refl; done = refl; cut_program = refl; cut-sector = refl; cut-bulk = refl; page_write = refl; cut-write = refl; page_erase = refl; cut_subsector = refl; rested = refl; kept-settings = refl }

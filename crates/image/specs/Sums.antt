@@ -1,4 +1,4 @@
--- The two sums of a block: both wrap at 65,536.
+-- The two sums of a block (document 02, Wish 7): both wrap at 65,536.
 --     sums_from  the sums after more bytes: the first adds each byte, and then the second adds the first
 --     sums_of    the sums of a block's bytes: the first starts at the block number modulo 65,536, the second at 0
 use Rattle.std.specs.Prelude.{ℕ, ◌+◌, ◌%◌, List, [], ◌∷◌}

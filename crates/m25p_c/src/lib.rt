@@ -1,5 +1,6 @@
 // The C calls as exports of a static library: each calls the function of the same name in `m25p`, whose clauses it states again.
 #![tactic(auto)]
+
 ghost use Rattle.device.specs.Time.{wait_call, power_up_call, loss_call};
 ghost use Rattle.m25p.specs.Calls.{transacted_c, Called, high, timed_c, CalledOn, DeliveredC};
 ghost use Rattle.m25p.specs.Pins.{RanC};
@@ -21,7 +22,15 @@ pub extern "C" fn m25p_deliver(
 ) -> u64
     ensures { DeliveredC packed.old part array.old program sector_erase bulk_erase write_status result packed.new array.new }
 {
-    m25p::m25p_deliver(packed, part, array, program, sector_erase, bulk_erase, write_status)
+    m25p::m25p_deliver(
+        packed,
+        part,
+        array,
+        program,
+        sector_erase,
+        bulk_erase,
+        write_status,
+    )
 }
 
 // One transaction: W is low for 0, else high.

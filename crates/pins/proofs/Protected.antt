@@ -65,7 +65,7 @@ found-goes : (ts : List Transaction) → every goes_on (events_of ts) ≡ true
 found-goes [] = refl
 found-goes (t ∷ ts) = found-goes ts
 
--- one run from a chip whose sector s is write_locked and frozen, whatever the samples are
+-- one run from a chip whose sector s is write-locked and frozen, whatever the samples are
 pub run_holds : {d : Device} {array samples output : List ℕ} {r : Done} {array' output' : List ℕ} → Ran d array samples output r array' output' → (s : ℕ) → Locked (record { device = d; array = array }) s
     → Held s (record { device = d; array = array }) (record { device = r.device; array = array' })
 unfolding chip_after

@@ -31,6 +31,6 @@ module _ {d : Device} {array items responses answers held : List ℕ} {r : Check
   pub report-protects : Armed (chip d array) → low_flags (items_of items) ≡ true → Kept (chip d array) (chip r.device array')
   report-protects f l = reported-ind (Kept (chip d array)) (hardware-protects.ends (chip d array) f (events_of items) (items-low (items_of items) l)) (kept-none (chip d array))
 
-  -- THEOREM: from a chip whose sector s is write_locked and frozen, whatever the items are
+  -- THEOREM: from a chip whose sector s is write-locked and frozen, whatever the items are
   pub report-holds : (s : ℕ) → Locked (chip d array) s → Held s (chip d array) (chip r.device array')
   report-holds s k = reported-ind (Held s (chip d array)) (lock-holds.ends (chip d array) s k (events_of items) (items-go (items_of items))) (record { register = refl; bytes = λ i lt e. refl })

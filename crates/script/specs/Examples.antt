@@ -10,7 +10,7 @@ pub record Read : Type 0 where
   pub exchange : meaning (ascii "x 1 0 9F000000") ≡ Exchange true 0 4
   pub its-bytes : bytes_of (ascii "x 1 0 9F000000") ≡ 0x9F ∷ 0 ∷ 0 ∷ 0 ∷ []
   pub either-case : bytes_of (ascii "x 0 3 aBfF09") ≡ 0xAB ∷ 0xFF ∷ 9 ∷ []
-  pub w_low_case : meaning (ascii "x 0 3 aBfF09") ≡ Exchange false 3 3
+  pub w-low : meaning (ascii "x 0 3 aBfF09") ≡ Exchange false 3 3
   pub no_bytes : meaning (ascii "x 1 7") ≡ Exchange true 7 0
   pub space-after-bits : meaning (ascii "x 1 0 ") ≡ Malformed
   pub odd-digits : meaning (ascii "x 1 0 060") ≡ Malformed
@@ -42,7 +42,7 @@ read = record {
   exchange = refl;
   its-bytes = refl;
   either-case = refl;
-  w_low_case = refl;
+  w-low = refl;
   no_bytes = refl;
   space-after-bits = refl;
   odd-digits = refl;

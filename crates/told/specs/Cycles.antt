@@ -82,7 +82,7 @@ pub record Kinds : Type 0 where
   pub pe : map (λ (k : Kind). (uses_of k).pe) kinds ≡ false ∷ false ∷ false ∷ false ∷ false ∷ true ∷ true ∷ true ∷ []
   -- what is not used is zero
   pub no-slots : no_slots ≡ replicate 256 0
-  pub no_cycle_bytes : no_cycle ≡ cycle Idle 0 (replicate 256 0) 0 false
+  pub no-cycle : no_cycle ≡ cycle Idle 0 (replicate 256 0) 0 false
   pub page-cycle : page_cycle 0x07FFFE (row 0x11 0x22 0xFF 0x33) ≡ cycle Page 0x07FFFE (row 0x11 0x22 0xFF 0x33) 0 false
   pub write-cycle : write_cycle 0x07FFFE (row 0x11 0x22 0xFF 0x33) 3 ≡ record { kind = PageWrite; address = 0x07FFFE; slots = row 0x11 0x22 0xFF 0x33; bp = 0; srwd = false; named = 3 }
   pub page-erase-cycle : erase_cycle PageErase 0x07FFFE ≡ cycle PageErase 0x07FFFE (replicate 256 0) 0 false
@@ -104,7 +104,7 @@ is-kinds = record {
   named = refl;
   pe = refl;
   no-slots = refl;
-  no_cycle_bytes = refl;
+  no-cycle = refl;
   page-cycle = refl;
   write-cycle = refl;
   page-erase-cycle = refl;

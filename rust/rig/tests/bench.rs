@@ -22,7 +22,11 @@ fn start() -> Child {
         Some(path) => PathBuf::from(path),
         None => PathBuf::from(env!("CARGO_MANIFEST_DIR")).join("../../crates/bench/out/bench"),
     };
-    assert!(path.is_file(), "There is no bench program {}: run `rt run` in crates/bench.", path.display());
+    assert!(
+        path.is_file(),
+        "There is no bench program {}: run `rt run` in crates/bench.",
+        path.display()
+    );
     let mut command = kit::command(&path).unwrap_or_else(|why| panic!("{why}"));
     let child = command.stdin(Stdio::piped()).stdout(Stdio::piped()).spawn();
     child.unwrap_or_else(|e| panic!("the bench program {} does not start: {e}", path.display()))

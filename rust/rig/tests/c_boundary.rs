@@ -95,7 +95,7 @@ fn declared(page: &str, call: &str) -> Vec<String> {
 
 /// The names of a call of the library, a slice as C has it: a pointer and its length.
 fn proved(call: &str) -> Vec<String> {
-    let text = std::fs::read_to_string(file("crates/m25p/src/lib.rt")).unwrap();
+    let text = std::fs::read_to_string(file("crates/m25p_c/src/lib.rt")).unwrap();
     let arguments = between(&text, "pub extern \"C\" fn ", call);
     let names = arguments.iter().flat_map(|argument| {
         let (name, kind) = argument.split_once(':').expect("a name and its type");

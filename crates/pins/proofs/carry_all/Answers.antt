@@ -39,8 +39,9 @@ clocked-under-requires c =
     let response : 65536 ≤ length l.response = omega (arith, l.invariant.4, s.requires.3) in
     let b : Begun s.args.device s.args.array.now s.args.samples.now l.i j.of-levels.result j.if-changes.array j.if-changes.device j.if-changes.missing j.if-changes.under
     = elim j.if-changes.branch [
-      then-changes w ↦ rw (w.array-is, w.device-is, w.missing-is, w.under-is) (begun-anew _ _ _ _ l.i lt s.requires.0 l.invariant.5 ew en l.response response (sym (j.changes.ensures l.holding) ∙ w.if-changes.true) w.carry_out-done.ensures w.none-under-then-changes.ensures)
-    | else-changes w ↦ rw (w.array-is, w.device-is, w.missing-is, w.under-is) (begun-same _ _ _ _ l.i lt s.requires.0 l.invariant.5 ew en (sym (j.changes.ensures l.holding) ∙ w.if-changes.false)) ] in
+      | then-changes w ↦ rw (w.array-is, w.device-is, w.missing-is, w.under-is) (begun-anew _ _ _ _ l.i lt s.requires.0 l.invariant.5 ew en l.response response (sym (j.changes.ensures l.holding) ∙ w.if-changes.true) w.carry_out-done.ensures w.none-under-then-changes.ensures)
+      | else-changes w ↦ rw (w.array-is, w.device-is, w.missing-is, w.under-is) (begun-same _ _ _ _ l.i lt s.requires.0 l.invariant.5 ew en (sym (j.changes.ensures l.holding) ∙ w.if-changes.false))
+    ] in
     let eh = c.on_select-held.ensures in
     (begun-few _ _ _ _ l.i lt s.requires.0 l.invariant.5 ew en b eh, begun-room _ _ _ _ l.i lt s.requires.0 l.invariant.5 ew en b eh sent)
 
@@ -62,8 +63,9 @@ loop-i-preserved c =
     let response : 65536 ≤ length l.response = omega (arith, l.invariant.4, s.requires.3) in
     let b : Begun s.args.device s.args.array.now s.args.samples.now l.i j.of-levels.result j.if-changes.array j.if-changes.device j.if-changes.missing j.if-changes.under
     = elim j.if-changes.branch [
-      then-changes w ↦ rw (w.array-is, w.device-is, w.missing-is, w.under-is) (begun-anew _ _ _ _ l.i lt s.requires.0 l.invariant.5 ew en l.response response (sym (j.changes.ensures l.holding) ∙ w.if-changes.true) w.carry_out-done.ensures w.none-under-then-changes.ensures)
-    | else-changes w ↦ rw (w.array-is, w.device-is, w.missing-is, w.under-is) (begun-same _ _ _ _ l.i lt s.requires.0 l.invariant.5 ew en (sym (j.changes.ensures l.holding) ∙ w.if-changes.false)) ] in
+      | then-changes w ↦ rw (w.array-is, w.device-is, w.missing-is, w.under-is) (begun-anew _ _ _ _ l.i lt s.requires.0 l.invariant.5 ew en l.response response (sym (j.changes.ensures l.holding) ∙ w.if-changes.true) w.carry_out-done.ensures w.none-under-then-changes.ensures)
+      | else-changes w ↦ rw (w.array-is, w.device-is, w.missing-is, w.under-is) (begun-same _ _ _ _ l.i lt s.requires.0 l.invariant.5 ew en (sym (j.changes.ensures l.holding) ∙ w.if-changes.false))
+    ] in
     let out : length l.output ≡ length s.args.output.now = l.invariant.2 in (
       omega (arith, lt),
       elim j.if-changes.branch [ then-changes w ↦ rw w.array-is (w.carry_out-done.auto.array ∙ l.invariant.1) | else-changes w ↦ rw w.array-is l.invariant.1 ],

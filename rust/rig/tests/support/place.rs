@@ -63,7 +63,7 @@ impl Place {
         Some(place)
     }
 
-    /// As it is before the first run.
+    /// As it is before the first run. It has no crates.txt: rt takes one below the top of a checkout for a mistake.
     pub fn unproved(test: &str) -> Option<Place> {
         let real = rt(test)?;
         let directory = scratch(&format!("bench_{test}"));
@@ -75,10 +75,13 @@ impl Place {
             Some(path) => PathBuf::from(path),
             None => root.join("crates/bench/out/bench"),
         };
-        assert!(program.is_file(), "There is no {}: run `rt run` in crates/bench.", program.display());
+        assert!(
+            program.is_file(),
+            "There is no {}: run `rt run` in crates/bench.",
+            program.display()
+        );
         install(&program, &directory.join("crates/bench/out/bench"));
         install(&root.join("bench"), &directory.join("bench"));
-        fs::write(directory.join("crates.txt"), "bench:\n").unwrap();
         let text = directory.join("stand-in/text");
         fs::write(&text, STAND_IN).unwrap();
         install(&text, &directory.join("stand-in/rt"));
