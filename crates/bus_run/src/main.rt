@@ -1,9 +1,10 @@
 // Runs bench parts on one bus through the entries that take the row lent, and on the same input through the entries by value: the numbers in their order, then cycles of one chip, and of two at once.
-#![tactic(auto)]
 //
 // A line is a transaction: the bytes sent, the further pulses, the chosen chip and how many there are, then the answer (number, first, count, bits missing), the response and the marks; or a wait of all: the ticks and how many chips, the answer and the marks.
 // Marks: r for each of the nine places whose record changed, a for each chip whose bytes changed. A response holds 55 in each byte before.
 // The last line says whether answers, rows, arrays and responses of both entries were the same at each step.
+#![tactic(auto)]
+
 mod steps;
 
 use bus::PLACES;

@@ -1,6 +1,7 @@
 // Runs document 01's worked cases, and cases of our own, on the five parts whose arrays fit the stack, through both entries. What a script says stands in `steps`.
-#![tactic(auto)]
 // K14 is not here: it needs the 16 MiB of the M25P128, and is proved.
+#![tactic(auto)]
+
 mod long;
 mod m25pe40;
 mod passing;
