@@ -148,7 +148,7 @@ impl Answer {
             Answer::Duration => "a duration is outside 1 to 1,000,000",
             Answer::RecordLength => "the packed record has another length",
             Answer::BadItem => "an item is cut, has a flag above 16, or is a wait not of length 4",
-            Answer::BatchRoom => "a buffer is too short",
+            Answer::BatchRoom => "a buffer is too short for all items of the batch",
             Answer::NoBytes => "no whole byte was sent",
             Answer::Busy => "the chip is busy, and this is not a status read",
             Answer::Deep => "the chip is in deep power-down, and this is not the release from it",
