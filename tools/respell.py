@@ -4,7 +4,7 @@
 Run once, at the top of the repository (or of FOLDER), right after port.py. Definitions of specs/ and proofs/ become snake case
 (mapAt: map_at), as do definitions of specs/ with hyphens (page-write: page_write); lemmas keep the hyphens between their words.
 It turns whole words of crates/ alone: .antt files, clauses, ghost items and comments of .rt files, and the lines of must-fail edits;
-strings and Rust's own names stay. A second run would turn the names in KEPT once more.
+a word of a string that is spelled like a name turns as well. A second run would turn the names in KEPT once more.
 """
 import glob
 import os
