@@ -1,0 +1,2 @@
+-- The number that answers a call.
+pub mod Numbers
