@@ -2,7 +2,7 @@
 ghost use Rattle.std.specs.Prelude.{◌≡◌, ◌+◌, ◌%◌, ◌<◌, length, get_or};
 ghost use Rattle.slices.specs.Changed.{map_at};
 ghost use Rattle.device.specs.Device.{status_byte};
-ghost use Rattle.chip.specs.Line.{identification, kth, on_line, line_byte, heard, driven, drives, span_of, from_on, Responded};
+ghost use Rattle.chip.specs.Line.{identification, kth, on_line, line_byte, heard, driven, span_of, from_on, Responded};
 ghost use Rattle.chip.specs.Table.{only_if, instruction_in};
 
 use crate::table::{Drive, Instruction, Row, read_instruction};
@@ -141,20 +141,6 @@ fn array_byte(array: &[u8], i: usize) -> u8
     array[at]
 }
 
-// What the chip does with the line during one byte; `byte` is 0 where nothing is driven.
-#[derive(Clone, Copy)]
-pub struct LineByte {
-    pub driven: bool,
-    pub byte: u8,
-}
-
-// A byte is driven.
-fn drives(byte: u8) -> LineByte
-    ensures { result ≡ line_byte (drives byte) }
-{
-    LineByte { driven: true, byte }
-}
-
 // Driven byte k, counted from the first.
 fn kth_byte(
     how: Drive,
@@ -163,28 +149,22 @@ fn kth_byte(
     array: &[u8],
     at: u32,
     k: usize,
-) -> LineByte
+) -> Option<u8>
     requires { at + k < 18446744073709551616 }
     ensures { result ≡ line_byte (kth how figures (status_byte device) device.locks array.now at k) }
 {
     match how {
-        Drive::Nothing => LineByte {
-            driven: false,
-            byte: 0,
-        },
-        Drive::Identification => drives(identification_byte(figures, k)),
-        Drive::Status => drives(device.status()),
-        Drive::Array => drives(array_byte(array, at as usize + k)),
-        Drive::Signature => drives(figures.signature),
-        Drive::Register => {
-            let locks = device.locks;
-            drives(lock_of(figures, locks, at))
-        }
+        Drive::Nothing => None,
+        Drive::Identification => Some(identification_byte(figures, k)),
+        Drive::Status => Some(device.status()),
+        Drive::Array => Some(array_byte(array, at as usize + k)),
+        Drive::Signature => Some(figures.signature),
+        Drive::Register => Some(lock_of(figures, device.locks, at)),
     }
 }
 
-// What is driven during the byte that comes after the bytes before.
-pub fn driven_byte(device: Device, array: &[u8], before: &[u8]) -> LineByte
+// What is driven during the byte that comes after the bytes before; `None` where nothing is.
+pub fn driven_byte(device: Device, array: &[u8], before: &[u8]) -> Option<u8>
     ensures { result ≡ line_byte (driven device array.now before.now) }
 {
     let asked = read_instruction(device, before);
@@ -193,10 +173,7 @@ pub fn driven_byte(device: Device, array: &[u8], before: &[u8]) -> LineByte
     let from = row.from;
     let how = row.drive;
     if before.len() < from {
-        return LineByte {
-            driven: false,
-            byte: 0,
-        };
+        return None;
     }
     let k = before.len() - from;
     kth_byte(how, figures, device, array, asked.address, k)
