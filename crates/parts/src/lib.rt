@@ -6,38 +6,38 @@ ghost use Rattle.parts.specs.Parts.{bench, m25p10a, m25p40, m25p32, m25p128, m25
 ghost use Rattle.parts.specs.Protected.{protected_of};
 
 // Part 0, for programs that run in small buffers.
-#[derive(Clone, Copy)]
+#[derive(Clone, Copy, Debug, PartialEq, Eq)]
 pub struct Bench;
 
 // Part 1.
-#[derive(Clone, Copy)]
+#[derive(Clone, Copy, Debug, PartialEq, Eq)]
 pub struct M25p10a;
 
 // Part 2.
-#[derive(Clone, Copy)]
+#[derive(Clone, Copy, Debug, PartialEq, Eq)]
 pub struct M25p40;
 
 // Part 3.
-#[derive(Clone, Copy)]
+#[derive(Clone, Copy, Debug, PartialEq, Eq)]
 pub struct M25p32;
 
 // Part 4. It has no deep power-down and no signature: SIGNATURE is 0 and never driven.
-#[derive(Clone, Copy)]
+#[derive(Clone, Copy, Debug, PartialEq, Eq)]
 pub struct M25p128;
 
 // Part 5, the M25P10-A before process technology X and Y: part 1 without Read Identification. Its identification is 0
 // and never driven.
-#[derive(Clone, Copy)]
+#[derive(Clone, Copy, Debug, PartialEq, Eq)]
 pub struct M25p10aOlder;
 
 // Part 6. It has no signature: SIGNATURE is 0 and never driven.
-#[derive(Clone, Copy)]
+#[derive(Clone, Copy, Debug, PartialEq, Eq)]
 pub struct M25pe40;
 
 // A part's figures as one value. `identifies` says whether Read Identification, 9F, exists; `sleeps` whether deep
 // power-down and its release, B9 and AB, do; `pe` whether it is an M25PE part, with 0A, DB, 20, E5, E8 and a lock
 // register for each sector, on which AB only releases. A part without subsectors has its sector's bytes there.
-#[derive(Clone, Copy)]
+#[derive(Clone, Copy, Debug, PartialEq, Eq)]
 pub struct Figures {
     pub bytes: usize,
     pub sectors: usize,
