@@ -7,7 +7,7 @@ use crate::Device;
 use parts::Figures;
 
 // What a cycle does: nothing where there is none; program a page, erase a sector, erase all, write the settings; on an M25PE part also write a page, erase a page, erase a subsector.
-#[derive(Clone, Copy)]
+#[derive(Clone, Copy, Debug, PartialEq, Eq)]
 pub enum Kind {
     Idle,
     Page,
@@ -20,7 +20,7 @@ pub enum Kind {
 }
 
 // Whether a kind is a cycle, what of a remembered cycle it uses, and whether it is of M25PE parts alone.
-#[derive(Clone, Copy)]
+#[derive(Clone, Copy, Debug, PartialEq, Eq)]
 pub struct Uses {
     pub cycle: bool,
     pub address: bool,
@@ -31,7 +31,7 @@ pub struct Uses {
 }
 
 // A remembered cycle: its kind, its address, the 256 slots of a program or a page write, the settings that are being written, how many bytes a page write named; zero but for what its kind uses.
-#[derive(Clone, Copy)]
+#[derive(Clone, Copy, Debug, PartialEq, Eq)]
 pub struct Cycle {
     pub kind: Kind,
     pub address: u32,

@@ -20,7 +20,7 @@ use cycle::{Cycle, same};
 use locks::{REGISTERS, locks_sound};
 
 // What the chip is doing: nothing, a cycle with so many ticks left, or deep power-down.
-#[derive(Clone, Copy)]
+#[derive(Clone, Copy, Debug, PartialEq, Eq)]
 pub enum Mode {
     Standby,
     Busy(u32),
@@ -28,7 +28,7 @@ pub enum Mode {
 }
 
 // A chip between two transactions. The four after the mode are how many ticks each kind of cycle takes; then the cycle that runs, and the lock register of each sector of an M25PE part, zero on the others.
-#[derive(Clone, Copy)]
+#[derive(Clone, Copy, Debug, PartialEq, Eq)]
 pub struct Device {
     pub part: u8,
     pub bp: u8,
@@ -44,7 +44,7 @@ pub struct Device {
 }
 
 // The answer of a call that checks its record, and the record handed back.
-#[derive(Clone, Copy)]
+#[derive(Clone, Copy, Debug, PartialEq, Eq)]
 pub struct Checked {
     pub answer: u8,
     pub device: Device,
