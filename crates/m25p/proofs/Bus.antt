@@ -21,7 +21,7 @@ use Rattle.chip.specs.Outcome.{bare}
 use Rattle.chip.specs.Events.{left}
 use Rattle.chip.proofs.Records.{wait-sound}
 use Rattle.chip.proofs.Rules.{answer-few, stays-sound}
-use Rattle.bus.specs.Bus.{bytes_of, sum_of, all_sound, chips_in, row_of, at, nth}
+use Rattle.bus.specs.Bus.{bytes_of, sum_of, all_sound, chips_in, row_of, nth}
 use Rattle.bus.specs.Runs.{asks, passes, next}
 use Rattle.bus.specs.Calls.{out_of_range, whole_number, wait_number, bus_number, Shared, chosen, bused, Waited, all_wait, bus_waited, Turns, Passes}
 use Rattle.bus.proofs.Numbers.{out-above, wait-zero, bus-zero}
