@@ -1,7 +1,7 @@
--- `bus::transact_part` meets its contract.
+-- `bus::lent::transact_part` meets its contract.
 use Rattle.bus.specs.Found.{partly}
 use Rattle.bus.proofs.Chips.{part-back}
-use Rattle.bus.proofs.transact_part.Goals as goal
+use Rattle.bus.proofs.lent.transact_part.Goals as goal
 
 pub returns : goal.returns
 unfolding partly
