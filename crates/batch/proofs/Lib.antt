@@ -2,6 +2,7 @@
 pub mod Items
 pub mod One
 pub mod Going
+pub mod Refused
 pub mod Runs
 pub mod Fits
 pub mod Singly

@@ -21,12 +21,12 @@ use Rattle.chip.specs.Outcome.{bare}
 use Rattle.chip.specs.Events.{left}
 use Rattle.chip.proofs.Records.{wait-sound}
 use Rattle.chip.proofs.Rules.{answer-few, stays-sound}
-use Rattle.bus.specs.Bus.{bytes_of, sum_of, all_sound, chips_in, row_of, at, nth}
+use Rattle.bus.specs.Bus.{bytes_of, sum_of, all_sound, chips_in, row_of, nth}
 use Rattle.bus.specs.Runs.{asks, passes, next}
 use Rattle.bus.specs.Calls.{out_of_range, whole_number, wait_number, bus_number, Shared, chosen, bused, Waited, all_wait, bus_waited, Turns, Passes}
 use Rattle.bus.proofs.Numbers.{out-above, wait-zero, bus-zero}
 use Rattle.bus.proofs.Chips.{chip-at, row-set}
-use Rattle.bus.proofs.Eight.{waited-length}
+use Rattle.bus.proofs.Waits.{waited-length}
 use Rattle.bus.proofs.Theorems.{only_zero, only-zero-waits}
 use Rattle.m25p.specs.Calls.{packed_answer, high}
 use Rattle.m25p.specs.Bus.{records_in, packed_row, bused_c, BusedC, bus_waited_c, BusWaitedC}

@@ -1,18 +1,18 @@
 -- Laws of the lines that are read.
 -- Assumes nothing.
 use mathlib.Core.Path.{◌≡◌, refl, sym, ap, ◌∙◌}
-use mathlib.Core.Bool.{Bool, true, false, cond, ◌&&◌, ◌||◌, and_assoc, and-false}
-use mathlib.Core.List.{List, [], ◌∷◌}
+use mathlib.Core.Bool.{Bool, true, false, cond, ◌&&◌, ◌||◌, and-false}
+use mathlib.Core.List.{List, [], ◌∷◌, ◌++◌}
 use Prim.Native.Nat.{ℕ, zero, suc, ◌+◌, ◌-◌, ◌*◌, ◌/◌, ◌%◌, ◌<◌, ◌≤◌, min}
 use native.Mathlib.Numerals.{add-one}
 use native.Mathlib.Omega.{arith}
-use borrow.Author.Tests.{ltb-true, ltb-false, leb-true, leb-false, eqb-true, le-leb, lt-leb, le-ltb}
+use borrow.Author.Tests.{ltb-true, ltb-false, eqb-true, le-leb, lt-leb, lt-ltb, le-ltb}
 use lib.Dec.{eqb, leb, ltb}
-use lib.ListN.{length, get_or, take, drop, drop_of_length-le, length-drop}
-use lib.Seq.{drop-cons, take_all}
+use lib.ListN.{length, get_or, take, drop, drop_of_length-le, length-drop, length-append, get_or-append}
+use lib.Seq.{drop-cons, get_or-take, get_or-drop, get_or-append-add, length-take-le}
 use Rattle.slices.specs.Changed.{map_at}
 use Rattle.slices.proofs.Choices.{both}
-use Rattle.slices.proofs.Maps.{map_is}
+use Rattle.slices.proofs.Maps.{map_is, length-map, get_or-map}
 use Rattle.script.specs.Lines.{digit_of, all_below, number_from, number_of, pairs, is_hex, is_number, is_exchange, is_wait, bytes_of, Parsed}
 use Rattle.script.specs.declared.Command.{Command}
 
@@ -25,11 +25,6 @@ between-below a b x h = rw (lt-leb a x h)
 
 pub between-above : (a b x : ℕ) → b < x → leb a x && leb x b ≡ false
 between-above a b x h = rw (lt-leb x b h) (and-false (leb a x))
-
--- one more character of a loop that tests each
-pub all-next : (base : ℕ) (xs : List ℕ) (i : ℕ) (b : Bool) → i < length xs
-    → (b && ltb (digit_of (get_or xs i 0)) base) && all_below base (drop (i + 1) xs) ≡ b && all_below base (drop i xs)
-all-next base xs i b h = rw (add-one, drop-cons xs i 0 h) (and_assoc b (ltb (digit_of (get_or xs i 0)) base) (all_below base (drop (suc i) xs)))
 
 -- a number is cut off alike, wherever two that are cut off alike go on with the same digits
 pub cut-alike : (xs : List ℕ) (v w m : ℕ) → min v m ≡ min w m → min (number_from v xs) m ≡ min (number_from w xs) m
@@ -51,19 +46,24 @@ number-next xs i v m h =
     rw (add-one, drop-cons xs i 0 h)
     (cut-alike (drop (suc i) xs) (min (10 * v + digit_of (get_or xs i 0)) m) (10 * v + digit_of (get_or xs i 0)) m (omega arith))
 
--- what is left of a line after its first n characters, which it may not have
-pub after_is : (xs : List ℕ) (n start : ℕ) → start ≡ min n (length xs) → drop start xs ≡ drop n xs
-after_is xs n start e = go (leb n (length xs)) refl
+-- a change of the first n alone
+pub change-front : (n : ℕ) (f : ℕ → ℕ → ℕ) (xs ys : List ℕ) → n ≤ length xs → ys ≡ map_at f (take n xs) → ((i x : ℕ) → n ≤ i → i < length xs → f i x ≡ x) → ys ++ drop n xs ≡ map_at f xs
+change-front n f xs ys le e stays = map_is f xs (ys ++ drop n xs) (omega (arith, l, length-append ys (drop n xs), length-drop n xs)) (λ i lt. go i lt (ltb i n) refl)
   where
-    go : (b : Bool) → leb n (length xs) ≡ b → drop start xs ≡ drop n xs
-    go true q = ap (λ (k : ℕ). drop k xs) (let t = leb-true n (length xs) q in let z : start ≡ n = omega arith in z)
-    go false q =
-        let t = leb-false n (length xs) q in
-        drop_of_length-le xs {i = start} (omega arith) ∙ sym (drop_of_length-le xs {i = n} (omega arith))
+    l : length ys ≡ n
+    l = ap length e ∙ length-map f (take n xs) ∙ length-take-le n xs le
 
--- the same, as the part of a slice from there to its end
-pub part-is : (xs : List ℕ) (n start : ℕ) → start ≡ min n (length xs) → take (length xs - start) (drop start xs) ≡ drop n xs
-part-is xs n start e = take_all (length xs - start) (drop start xs) (omega (arith, length-drop start xs)) ∙ after_is xs n start e
+    go : (i : ℕ) → i < length xs → (b : Bool) → ltb i n ≡ b → get_or (ys ++ drop n xs) i 0 ≡ f i (get_or xs i 0)
+    go i lt true q =
+        let k = ltb-true i n q in
+        get_or-append ys (drop n xs) 0 i (omega (arith, l))
+        ∙ (ap (λ (t : List ℕ). get_or t i 0) e ∙ (get_or-map f (take n xs) i 0 (omega (arith, length-take-le n xs le)) ∙ ap (f i) (get_or-take n xs i 0 k)))
+    go i lt false q =
+        let k = ltb-false i n q in
+        let z : i ≡ length ys + (i - n) = omega (arith, l) in
+        let w : n + (i - n) ≡ i = omega arith in
+        ap (λ (m : ℕ). get_or (ys ++ drop n xs) m 0) z
+        ∙ (get_or-append-add ys (drop n xs) (i - n) 0 ∙ (get_or-drop n xs (i - n) 0 ∙ (ap (λ (m : ℕ). get_or xs m 0) w ∙ sym (stays i (get_or xs i 0) k lt))))
 
 -- where there are no bytes nothing is stored
 pub none-stored : (xs : List ℕ) → xs ≡ map_at (get_or []) xs
@@ -74,6 +74,21 @@ pub below_at : (base : ℕ) (xs : List ℕ) (i : ℕ) → all_below base xs ≡ 
 below_at base [] i h lt = omega arith
 below_at base (x ∷ xs) zero h lt = ltb-true (digit_of x) base (both (ltb (digit_of x) base) (all_below base xs) h).0
 below_at base (x ∷ xs) (suc i) h lt = below_at base xs i (both (ltb (digit_of x) base) (all_below base xs) h).1 (omega arith)
+
+-- and a text of digits alone is one
+all-back : (base : ℕ) (xs : List ℕ) → ((i : ℕ) → i < length xs → digit_of (get_or xs i 0) < base) → all_below base xs ≡ true
+all-back base [] h = refl
+all-back base (x ∷ xs) h = rw (lt-ltb (digit_of x) base (h 0 (omega arith))) (all-back base xs (λ i lt. h (suc i) (omega arith)))
+
+-- a test that holds exactly if each character is a digit
+pub all_is : (base : ℕ) (xs : List ℕ) (b : Bool) → (b ≡ true → (i : ℕ) → i < length xs → digit_of (get_or xs i 0) < base) → (((i : ℕ) → i < length xs → digit_of (get_or xs i 0) < base) → b ≡ true)
+    → b ≡ all_below base xs
+all_is base xs true to from = sym (all-back base xs (to refl))
+all_is base xs false to from = go (all_below base xs) refl
+  where
+    go : (t : Bool) → all_below base xs ≡ t → false ≡ all_below base xs
+    go true e = from (λ i lt. below_at base xs i e lt) ∙ sym e
+    go false e = sym e
 
 -- there is a byte for every two characters
 pub length_pairs : (xs : List ℕ) → length (pairs xs) ≡ length xs / 2

@@ -1,24 +1,21 @@
--- `number` meets its contract: the invariant: cut off at 2^32, the digits to come after the value so far give the number of the whole.
-use mathlib.Core.Path.{◌≡◌, ◌∙◌}
-use Prim.Native.Nat.{◌+◌, ◌*◌, ◌<◌, min}
-use native.Mathlib.Omega.{arith}
-use lib.ListN.{length, get_or, drop_of_length-le}
+-- `number` meets its contract: cut off at 2^32, the digits to come after the value so far give the number of the whole.
+use Rattle.std.proofs.Common.{◌≡◌, ◌∙◌, ◌+◌, ◌*◌, min, get_or, arith, drop_of_length-le}
 use Rattle.script.specs.Lines.{number_from, number_of, digit_of}
 use Rattle.script.proofs.Reading.{number-next}
 use Rattle.script.proofs.number.Goals as goal
 
-pub loop-i-preserved : goal.loop-i-preserved
-loop-i-preserved c =
+pub loop-x-preserved : goal.loop-x-preserved
+loop-x-preserved c =
     let text = c.args.text.now in
-    let l = c.loop-i in
-    let h : l.i < length text = omega arith in
-    let e : c.cut-v.result ≡ min (10 * l.v + digit_of (get_or text l.i 0)) 4294967296 = omega (arith, c.cut-v.ensures, c.wide.ensures, c.digit.ensures) in
-    (omega arith, omega (arith, c.cut-v.ensures), rw e (number-next text l.i l.v 4294967296 h ∙ l.invariant.2))
+    let l = c.loop-x in
+    let e : c.min-v.result ≡ min (10 * l.v + digit_of (get_or text l.x-index 0)) 4294967296 = omega (arith, c.min-v.ensures, c.from.ensures, c.digit.ensures) in
+    record { small = omega (arith, c.min-v.ensures); so_far = rw e (number-next text l.x-index l.v 4294967296 c.loop-x-test.true ∙ l.invariant.so_far) }
 
 pub returns : goal.returns
 unfolding number_of
 returns c =
     let text = c.args.text.now in
-    let l = c.loop-i in
-    let e : min l.v 4294967296 ≡ min (number_from 0 text) 4294967296 = rw (drop_of_length-le text {i = l.i} (omega arith)) at l.invariant.2 in
+    let l = c.loop-x in
+    let e : min l.v 4294967296 ≡ min (number_from 0 text) 4294967296 = rw (drop_of_length-le text {i = l.x-index} (omega arith)) at l.invariant.so_far in
+    let s = l.invariant.small in
     omega arith
