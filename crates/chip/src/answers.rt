@@ -61,9 +61,10 @@ fn in_protected(figures: Figures, bp: u8, at: u32) -> bool
 
 // Whether the sector of an address is protected, by BP or by its lock register.
 #[tactic(auto, unfolding(crate::specs::Answers::protected_at))]
-fn protected_at(figures: Figures, device: Device, at: u32) -> bool
-    ensures { result ≡ protected_at figures device at }
+fn protected_at(device: Device, at: u32) -> bool
+    ensures { result ≡ protected_at (figures_of device.part) device at }
 {
+    let figures = Figures::of(device.part);
     in_protected(figures, device.bp, at) || stops(lock_of(figures, device.locks, at))
 }
 
@@ -76,31 +77,25 @@ fn protected_any(device: Device) -> bool
 }
 
 // What guards a cycle: the protected sector that it would write in; of a bulk erase any.
-fn is_guarded(kind: Kind, figures: Figures, device: Device, at: u32) -> bool
-    ensures { result ≡ guarded_in kind figures device at }
+fn is_guarded(kind: Kind, device: Device, at: u32) -> bool
+    ensures { result ≡ guarded_in kind (figures_of device.part) device at }
 {
     match kind {
         Kind::Idle | Kind::Settings => false,
         Kind::All => protected_any(device),
         Kind::Page | Kind::Sector | Kind::PageWrite | Kind::PageErase | Kind::Subsector => {
-            protected_at(figures, device, at)
+            protected_at(device, at)
         }
     }
 }
 
 // Whether nothing guards an instruction: 17 where its cycle is guarded, 18 and 19 where the settings or the lock register are frozen.
-fn guard_accepts(
-    turn: Turn,
-    figures: Figures,
-    device: Device,
-    w: bool,
-    at: u32,
-) -> Result<(), Refusal>
-    ensures { answer_of result ≡ cond (guarded turn figures device at) 17 (cond (writes_settings turn && device.srwd && not w) 18 (cond (frozen turn figures device at) 19 0)) }
+fn guard_accepts(turn: Turn, device: Device, w: bool, at: u32) -> Result<(), Refusal>
+    ensures { answer_of result ≡ cond (guarded turn (figures_of device.part) device at) 17 (cond (writes_settings turn && device.srwd && not w) 18 (cond (frozen turn (figures_of device.part) device at) 19 0)) }
 {
     match turn {
         Turn::Start(kind) => {
-            if is_guarded(kind, figures, device, at) {
+            if is_guarded(kind, device, at) {
                 return Err(Refusal::Protected);
             }
             let uses = Uses::of(kind);
@@ -110,7 +105,7 @@ fn guard_accepts(
             Ok(())
         }
         Turn::Lock => {
-            if freezes(lock_of(figures, device.locks, at)) {
+            if freezes(lock_of(Figures::of(device.part), device.locks, at)) {
                 return Err(Refusal::LockFrozen);
             }
             Ok(())
@@ -157,7 +152,7 @@ fn chip_accepts(
     if row.latch && !device.latch {
         return Err(Refusal::LatchReset);
     }
-    guard_accepts(row.turn, Figures::of(device.part), device, w, at)
+    guard_accepts(row.turn, device, w, at)
 }
 
 // What becomes of a transaction with an array and a response of these lengths.
