@@ -98,6 +98,7 @@ fn execute(device: Device, array: &[u8], sent: &[u8], response: &mut [u8]) -> Do
 }
 
 // One transaction: the bytes sent, the further pulses, and the level of W as Chip Select rises. No transaction changes a byte of the array: a cycle does, at its end.
+// The bytes, the pulses and W each by itself, as the calls from C hand them.
 #[tactic(auto, using(crate::proofs::Laws::executed_short), unfolding(crate::specs::Outcome::transacted, crate::specs::Outcome::outcome_of))]
 pub fn transact(
     device: Device,

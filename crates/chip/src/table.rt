@@ -31,6 +31,7 @@ pub enum Drive {
 }
 
 // A row: what is needed (n from least to most, no further pulses, the latch), whether it is taken while busy and in deep power-down, what it does, what it drives from which byte on.
+// `known` and not an `Option` of a row: `row_of`, of which the theorems speak, has a row for every code.
 #[derive(Clone, Copy, Debug, PartialEq, Eq)]
 pub struct Row {
     pub known: bool,
