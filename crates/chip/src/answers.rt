@@ -5,7 +5,7 @@ ghost use Rattle.parts.specs.Parts.{figures_of};
 ghost use Rattle.chip.specs.Answers.{host_number, writes_settings, in_protected, protected_at, protected_any, guarded_in, guarded, frozen, as_needed, chip_number, verdict_of};
 
 use crate::LONGEST;
-use crate::table::{Row, Turn, read_instruction};
+use crate::table::{Instruction, Row, Turn};
 use device::cycle::{Kind, Uses};
 use device::locks::{any_stops, freezes, lock_of, sector_of, stops};
 use device::{Device, is_busy, is_deep};
@@ -114,12 +114,14 @@ fn guard_accepts(turn: Turn, device: Device, w: bool, at: u32) -> Result<(), Ref
     }
 }
 
-// Whether n and the further pulses are as the row needs.
-#[tactic(auto, unfolding(crate::specs::Answers::as_needed))]
-fn as_needed(row: Row, n: usize, pulses: u32) -> bool
-    ensures { result ≡ as_needed row n pulses }
-{
-    row.least <= n && n <= row.most && (!row.no_pulses || pulses == 0)
+impl Row {
+    // Whether n and the further pulses are as needed.
+    #[tactic(auto, unfolding(crate::specs::Answers::as_needed))]
+    fn as_needed(self, n: usize, pulses: u32) -> bool
+        ensures { result ≡ as_needed self n pulses }
+    {
+        self.least <= n && n <= self.most && (!self.no_pulses || pulses == 0)
+    }
 }
 
 // Whether the chip takes an instruction: what it ignores in its order, 11, 14, 12, 13, 15, 16, 17, 18, 19.
@@ -146,7 +148,7 @@ fn chip_accepts(
     if is_deep(device.mode) && !row.deep {
         return Err(Refusal::WhileDeep);
     }
-    if !as_needed(row, n, pulses) {
+    if !row.as_needed(n, pulses) {
         return Err(Refusal::OddLength);
     }
     if row.latch && !device.latch {
@@ -171,7 +173,7 @@ pub(crate) fn judge(
     if let Err(refusal) = host_accepts(device, array, n, pulses, response) {
         return Verdict::Refused(refusal.into());
     }
-    let asked = read_instruction(device, sent);
+    let asked = Instruction::read(device, sent);
     if let Err(refusal) = chip_accepts(device, asked.row, n, pulses, w, asked.address) {
         return Verdict::Ignored(refusal.into());
     }

@@ -187,14 +187,16 @@ pub struct Instruction {
     pub address: u32,
 }
 
-// The instruction that is sent.
-pub(crate) fn read_instruction(device: Device, sent: &[u8]) -> Instruction
-    ensures { result ≡ instruction_in device sent.now }
-{
-    let figures = Figures::of(device.part);
-    Instruction {
-        figures,
-        row: decode(figures, slices::byte_at(sent, 0)),
-        address: address(figures, sent),
+impl Instruction {
+    // The instruction that is sent.
+    pub(crate) fn read(device: Device, sent: &[u8]) -> Self
+        ensures { result ≡ instruction_in device sent.now }
+    {
+        let figures = Figures::of(device.part);
+        Instruction {
+            figures,
+            row: decode(figures, slices::byte_at(sent, 0)),
+            address: address(figures, sent),
+        }
     }
 }
