@@ -2,7 +2,6 @@
 pub mod Items
 pub mod One
 pub mod Going
-pub mod Refused
 pub mod Runs
 pub mod Fits
 pub mod Singly

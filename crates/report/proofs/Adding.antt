@@ -56,14 +56,6 @@ some-never (suc n) = rw (some-never n)
 
 -- ---- 71
 
--- a sum that does not fit, as the code finds it
-pub beyond : (was n : ℕ) → was ≤ largest → ltb (largest - was) n ≡ ltb largest (was + n)
-beyond was n h = go (ltb largest (was + n)) refl
-  where
-    go : (b : Bool) → ltb largest (was + n) ≡ b → ltb (largest - was) n ≡ b
-    go true e = let k = ltb-true largest (was + n) e in lt-ltb (largest - was) n (omega arith)
-    go false e = let k = ltb-false largest (was + n) e in le-ltb (largest - was) n (omega arith)
-
 module _ (more : ℕ → ℕ) (b : List ℕ) where
   -- where it is not met, every sum fits
   pub none-exceeds : exceeds more b ≡ false → (i : ℕ) → i < totals → total_in b i + more i ≤ largest

@@ -1,13 +1,14 @@
 -- `batch::run` meets its contract.
 use Rattle.std.proofs.Common.{length, sym, rules}
-use Rattle.batch.proofs.Refused.{some-number}
+use borrow.Author.Tests.{eqb-false}
+use Rattle.chip.proofs.Verdicts.{refusal_some}
 use Rattle.batch.proofs.Runs.{accepted, refused, done}
 use Rattle.batch.proofs.run.Goals as goal
 
 pub returns-in-Err : goal.returns-in-Err
 returns-in-Err c =
     let a = c.args in
-    rw c.into.ensures (refused a.device a.array.now a.items.now a.responses.now a.answers.now a.missing.now _ c.in-Err.ensures (some-number c.in-Err.refusal))
+    rw c.into.ensures (refused a.device a.array.now a.items.now a.responses.now a.answers.now a.missing.now _ c.in-Err.ensures (eqb-false _ 0 (refusal_some c.in-Err.refusal)))
 
 pub carry_all-all-requires : goal.carry_all-all-requires
 carry_all-all-requires c =

@@ -1,13 +1,14 @@
 -- `report::run` meets its contract.
 use Rattle.std.proofs.Common.{sym, lit≤}
-use Rattle.batch.proofs.Refused.{some-number}
+use borrow.Author.Tests.{eqb-false}
+use Rattle.chip.proofs.Verdicts.{refusal_some}
 use Rattle.report.proofs.Runs.{number-none, sums-fit, refused, done}
 use Rattle.report.proofs.run.Goals as goal
 
 pub returns-in-Err : goal.returns-in-Err
 returns-in-Err c =
     let a = c.args in
-    rw c.into.ensures (refused a.device a.array.now a.items.now a.responses.now a.answers.now a.totals.now _ c.in-Err.ensures.number (some-number c.in-Err.refusal))
+    rw c.into.ensures (refused a.device a.array.now a.items.now a.responses.now a.answers.now a.totals.now _ c.in-Err.ensures.number (eqb-false _ 0 (refusal_some c.in-Err.refusal)))
 
 pub add_all-requires : goal.add_all-requires
 add_all-requires c =
