@@ -87,10 +87,7 @@ fn is_exchange(line: &[u8]) -> bool
 fn ticks(line: &[u8]) -> Option<u32>
     ensures { result ≡ ticks_in line.now }
 {
-    if (byte_at(line, 0) == b'w') & (byte_at(line, 1) == b' ') {
-        return number(after(line, 2));
-    }
-    None
+    number(line.strip_prefix(b"w ")?)
 }
 
 // Whether a line is `p`.
@@ -98,7 +95,7 @@ fn ticks(line: &[u8]) -> Option<u32>
 fn is_power_up(line: &[u8]) -> bool
     ensures { result ≡ is_power_up line.now }
 {
-    (line.len() == 1) & (byte_at(line, 0) == b'p')
+    line == b"p".as_slice()
 }
 
 // The bytes of hexadecimal pairs go to the start of `out`, as far as it has room.
