@@ -1,19 +1,22 @@
 -- Laws of the lines that are read.
 -- Assumes nothing.
 use mathlib.Core.Path.{◌≡◌, refl, sym, ap, ◌∙◌}
-use mathlib.Core.Bool.{Bool, true, false, cond, ◌&&◌, ◌||◌, and-false}
+use mathlib.Core.Bool.{Bool, true, false, cond, ◌&&◌, ◌||◌, and-false, and-true}
 use mathlib.Core.List.{List, [], ◌∷◌, ◌++◌}
-use Prim.Native.Nat.{ℕ, zero, suc, ◌+◌, ◌-◌, ◌*◌, ◌/◌, ◌%◌, ◌<◌, ◌≤◌, min}
+use Prim.Native.Nat.{ℕ, zero, suc, ◌+◌, ◌-◌, ◌*◌, ◌/◌, ◌%◌, ◌<◌, ◌≤◌}
 use native.Mathlib.Numerals.{add-one}
 use native.Mathlib.Omega.{arith}
-use borrow.Author.Tests.{ltb-true, ltb-false, eqb-true, le-leb, lt-leb, lt-ltb, le-ltb}
+use borrow.Author.Tests.{ltb-true, ltb-false, eqb-true, eqb-false, le-leb, lt-leb, lt-ltb, le-ltb}
 use lib.Dec.{eqb, leb, ltb}
+use lib.Pointwise.{pointwise}
 use lib.ListN.{length, get_or, take, drop, drop_of_length-le, length-drop, length-append, get_or-append}
 use lib.Seq.{drop-cons, get_or-take, get_or-drop, get_or-append-add, length-take-le}
+use Rattle.std.proofs.Common.{Some, None, not}
 use Rattle.slices.specs.Changed.{map_at}
 use Rattle.slices.proofs.Choices.{both}
 use Rattle.slices.proofs.Maps.{map_is, length-map, get_or-map}
 use Rattle.script.specs.Lines.{digit_of, all_below, number_from, number_of, pairs, is_hex, is_number, is_exchange, is_wait, bytes_of, Parsed}
+use Rattle.script.specs.Steps.{number_in, ticks_in}
 use Rattle.script.specs.declared.Command.{Command}
 
 -- a number in a range, one below it and one above it
@@ -26,25 +29,65 @@ between-below a b x h = rw (lt-leb a x h)
 pub between-above : (a b x : ℕ) → b < x → leb a x && leb x b ≡ false
 between-above a b x h = rw (lt-leb x b h) (and-false (leb a x))
 
--- a number is cut off alike, wherever two that are cut off alike go on with the same digits
-pub cut-alike : (xs : List ℕ) (v w m : ℕ) → min v m ≡ min w m → min (number_from v xs) m ≡ min (number_from w xs) m
-cut-alike [] v w m h = h
-cut-alike (x ∷ xs) v w m h = cut-alike xs (10 * v + digit_of x) (10 * w + digit_of x) m (omega arith)
+-- a number only grows with more digits
+grows : (xs : List ℕ) (v : ℕ) → v ≤ number_from v xs
+grows [] v = omega arith
+grows (x ∷ xs) v = let h = grows xs (10 * v + digit_of x) in omega arith
 
--- a number is below where it is cut off exactly if it was
-pub cut_below : (v m : ℕ) → ltb (min v m) m ≡ ltb v m
-cut_below v m = go (ltb v m) refl
+-- one more digit
+pub number-next : (xs : List ℕ) (i v : ℕ) → i < length xs → number_from (10 * v + digit_of (get_or xs i 0)) (drop (i + 1) xs) ≡ number_from v (drop i xs)
+number-next xs i v h = rw (add-one, drop-cons xs i 0 h)
+
+-- a field that is no number: no digits alone, or one that is too large
+pub no_digits : (xs : List ℕ) → eqb (length xs) 0 || not (all_below 10 xs) ≡ true → None ≡ number_in xs
+unfolding is_number
+no_digits xs h = go (eqb (length xs) 0) refl (all_below 10 xs) refl
   where
-    go : (b : Bool) → ltb v m ≡ b → ltb (min v m) m ≡ ltb v m
-    go true e = let h = ltb-true v m e in ap (λ (k : ℕ). ltb k m) (let z : min v m ≡ v = omega arith in z)
-    go false e = let h = ltb-false v m e in le-ltb (min v m) m (omega arith) ∙ sym e
+    go : (s : Bool) → eqb (length xs) 0 ≡ s → (t : Bool) → all_below 10 xs ≡ t → None ≡ number_in xs
+    go true p t q = let z = eqb-true (length xs) 0 p in rw z
+    go false p true q = let z : false ≡ true = rw (p, q) at h in cc
+    go false p false q = rw (q, and-false (ltb 0 (length xs)))
 
--- one more digit of a loop that cuts off
-pub number-next : (xs : List ℕ) (i v m : ℕ) → i < length xs
-    → min (number_from (min (10 * v + digit_of (get_or xs i 0)) m) (drop (i + 1) xs)) m ≡ min (number_from v (drop i xs)) m
-number-next xs i v m h =
-    rw (add-one, drop-cons xs i 0 h)
-    (cut-alike (drop (suc i) xs) (min (10 * v + digit_of (get_or xs i 0)) m) (10 * v + digit_of (get_or xs i 0)) m (omega arith))
+pub too_large : (xs : List ℕ) (i v : ℕ) → i < length xs → number_from v (drop i xs) ≡ number_of xs → 4294967296 ≤ 10 * v + digit_of (get_or xs i 0) → None ≡ number_in xs
+unfolding is_number
+too_large xs i v lt e h =
+    let g = grows (drop (i + 1) xs) (10 * v + digit_of (get_or xs i 0)) in
+    let s = number-next xs i v lt in
+    let big : 4294967296 ≤ number_of xs = omega arith in
+    rw (le-ltb (number_of xs) 4294967296 big, and-false (ltb 0 (length xs) && all_below 10 xs))
+
+-- and one that is
+pub is_one : (xs : List ℕ) (v : ℕ) → eqb (length xs) 0 || not (all_below 10 xs) ≡ false → v ≡ number_of xs → v < 4294967296 → Some v ≡ number_in xs
+unfolding is_number
+is_one xs v h e lt = go (eqb (length xs) 0) refl (all_below 10 xs) refl
+  where
+    go : (s : Bool) → eqb (length xs) 0 ≡ s → (t : Bool) → all_below 10 xs ≡ t → Some v ≡ number_in xs
+    go true p t q = let z : true ≡ false = rw p at h in cc
+    go false p false q = let z : true ≡ false = rw (p, q) at h in cc
+    go false p true q =
+        let k : 0 < length xs = let n = eqb-false (length xs) 0 p in omega (arith, n) in
+        rw (lt-ltb 0 (length xs) k, q, ← e, lt-ltb v 4294967296 lt)
+
+-- a line that begins as one that waits
+pub begins : (line : List ℕ) → pointwise eqb (take 2 line) (119 ∷ 32 ∷ []) ≡ eqb (get_or line 0 0) 119 && eqb (get_or line 1 0) 32
+begins [] = refl
+begins (x ∷ []) = refl
+begins (x ∷ y ∷ line) = rw and-true
+
+-- a line that waits, and one that does not
+pub waits : (line : List ℕ) (t : ℕ) → Some t ≡ ticks_in line → (is_wait line ≡ true) × (t ≡ number_of (drop 2 line))
+waits line t e = go (is_wait line) refl
+  where
+    go : (b : Bool) → is_wait line ≡ b → (is_wait line ≡ true) × (t ≡ number_of (drop 2 line))
+    go true p = (p, let z : Some t ≡ Some (number_of (drop 2 line)) = rw p at e in cc)
+    go false p = let z : Some t ≡ None = rw p at e in cc
+
+pub no_wait : (line : List ℕ) → ticks_in line ≡ None → is_wait line ≡ false
+no_wait line e = go (is_wait line) refl
+  where
+    go : (b : Bool) → is_wait line ≡ b → is_wait line ≡ false
+    go true p = let z : Some (number_of (drop 2 line)) ≡ None = rw p at e in cc
+    go false p = p
 
 -- a change of the first n alone
 pub change-front : (n : ℕ) (f : ℕ → ℕ → ℕ) (xs ys : List ℕ) → n ≤ length xs → ys ≡ map_at f (take n xs) → ((i x : ℕ) → n ≤ i → i < length xs → f i x ≡ x) → ys ++ drop n xs ≡ map_at f xs
@@ -127,14 +170,6 @@ exchange-hex line h =
     go false e q =
         (both (ltb 0 (length (drop 6 line)) && eqb (length (drop 6 line) % 2) 0) (all_below 16 (drop 6 line))
         (both (eqb (get_or line 5 0) 32) (is_hex (drop 6 line)) q).1).1
-
--- the ticks of a line that waits are below 2^32
-pub wait-fits : (line : List ℕ) → is_wait line ≡ true → number_of (drop 2 line) < 4294967296
-unfolding is_wait is_number
-wait-fits line h =
-    ltb-true (number_of (drop 2 line)) 4294967296
-    (both (ltb 0 (length (drop 2 line)) && all_below 10 (drop 2 line)) (ltb (number_of (drop 2 line)) 4294967296)
-    (both (eqb (get_or line 0 0) 119 && eqb (get_or line 1 0) 32) (is_number (drop 2 line)) h).1).1
 
 -- a line has at most 297 bytes
 pub few_bytes : (line : List ℕ) → length (bytes_of line) ≤ 297

@@ -3,4 +3,4 @@ pub mod Text
 pub mod Lines
 pub mod Answers
 pub mod Examples
-pub mod Texts
+pub mod Steps

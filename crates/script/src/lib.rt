@@ -1,11 +1,11 @@
 // The bench's line language: what a line asks, and the lines that answer it.
 #![tactic(auto)]
 
-ghost use Rattle.std.specs.Prelude.{◌≡◌, true, [], ◌∷◌, ◌<◌, min, get_or, drop};
+ghost use Rattle.std.specs.Prelude.{◌≡◌, true, [], ◌∷◌, ◌<◌, get_or, drop};
 ghost use Rattle.slices.specs.Changed.{map_at};
-ghost use Rattle.script.specs.Lines.{digit_of, all_below, number_of, is_hex, is_number, is_exchange, is_wait, is_power_up, pairs, Parsed};
+ghost use Rattle.script.specs.Lines.{digit_of, all_below, is_hex, is_exchange, is_power_up, pairs, Parsed};
 ghost use Rattle.script.specs.Answers.{decimal, hex_digit, hex_byte, hex_text, hex_or_dash, answer_line, end_line, Printed};
-ghost use Rattle.script.specs.Texts.{Prints};
+ghost use Rattle.script.specs.Steps.{number_in, ticks_in, Prints};
 
 use slices::byte_at;
 
@@ -38,17 +38,6 @@ fn all_below(base: u8, text: &[u8]) -> bool
     text.iter().all(|x| digit(*x) < base)
 }
 
-// The number of decimal digits, cut off at 2^32.
-fn number(text: &[u8]) -> u64
-    ensures { result ≡ min (number_of text.now) 4294967296 }
-{
-    let mut v: u64 = 0;
-    for x in text {
-        v = (10 * v + u64::from(digit(*x))).min(4_294_967_296);
-    }
-    v
-}
-
 // What comes after the first `n` characters.
 fn after(text: &[u8], n: usize) -> &[u8]
     ensures { result.now ≡ drop n text.now }
@@ -64,11 +53,18 @@ fn is_hex(text: &[u8]) -> bool
     (0 < text.len()) & (text.len() % 2 == 0) & all_below(16, text)
 }
 
-// Whether a field is a decimal number below 2^32.
-fn is_number(text: &[u8]) -> bool
-    ensures { result ≡ is_number text.now }
+// The number of a field of decimal digits, one at least, where it is below 2^32.
+fn number(text: &[u8]) -> Option<u32>
+    ensures { result ≡ number_in text.now }
 {
-    (0 < text.len()) & all_below(10, text) & (number(text) < 4_294_967_296)
+    if text.is_empty() | !all_below(10, text) {
+        return None;
+    }
+    let mut v: u32 = 0;
+    for x in text {
+        v = v.checked_mul(10)?.checked_add(u32::from(digit(*x)))?;
+    }
+    Some(v)
 }
 
 // Whether a line has the form `x W bits hex` or `x W bits`.
@@ -87,12 +83,11 @@ fn is_exchange(line: &[u8]) -> bool
         & ((line.len() == 5) | hex)
 }
 
-// Whether a line has the form `w t`.
-#[tactic(auto, unfolding(crate::specs::Lines::is_wait))]
-fn is_wait(line: &[u8]) -> bool
-    ensures { result ≡ is_wait line.now }
+// The ticks of a line that has the form `w t`.
+fn ticks(line: &[u8]) -> Option<u32>
+    ensures { result ≡ ticks_in line.now }
 {
-    (byte_at(line, 0) == b'w') & (byte_at(line, 1) == b' ') & is_number(after(line, 2))
+    number(line.strip_prefix(b"w ")?)
 }
 
 // Whether a line is `p`.
@@ -100,7 +95,7 @@ fn is_wait(line: &[u8]) -> bool
 fn is_power_up(line: &[u8]) -> bool
     ensures { result ≡ is_power_up line.now }
 {
-    (line.len() == 1) & (byte_at(line, 0) == b'p')
+    line == b"p".as_slice()
 }
 
 // The bytes of hexadecimal pairs go to the start of `out`, as far as it has room.
@@ -129,8 +124,8 @@ pub fn parse(line: &[u8], sent: &mut [u8]) -> Command
         store(hex, sent);
         return Command::Exchange { w, pulses, n };
     }
-    if is_wait(line) {
-        return Command::Wait(number(after(line, 2)) as u32);
+    if let Some(t) = ticks(line) {
+        return Command::Wait(t);
     }
     if is_power_up(line) {
         return Command::PowerUp;

@@ -1,6 +1,6 @@
 use Rattle.std.proofs.Common.{◌≡◌, take}
 use Rattle.script.specs.Answers.{hex_text}
-use Rattle.script.specs.Texts.{Prints}
+use Rattle.script.specs.Steps.{Prints}
 use Rattle.script.proofs.Text.hex.Given as goal
 
 abbrev pub invariant-loop-b : goal.invariant-loop-b

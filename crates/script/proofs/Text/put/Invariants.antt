@@ -1,5 +1,5 @@
 use Rattle.std.proofs.Common.{◌≡◌, take}
-use Rattle.script.specs.Texts.{Prints}
+use Rattle.script.specs.Steps.{Prints}
 use Rattle.script.proofs.Text.put.Given as goal
 
 abbrev pub invariant-loop-b : goal.invariant-loop-b
