@@ -6,8 +6,8 @@ use mathlib.Core.List.{List, ◌++◌}
 use Prim.Native.Nat.{ℕ, ◌≤◌, ◌<◌}
 use native.Mathlib.Omega.{arith}
 use lib.Dec.{eqb, leb}
-use lib.ListN.{length, get_or, take, drop}
-use lib.Seq.{drop_at, take_at, drop-drop, get_or-drop}
+use lib.ListN.{length, take, drop}
+use lib.Seq.{drop_at, take_at, drop-drop}
 use borrow.Author.Tests.{eqb-true, leb-true, ltb-true}
 use Rattle.slices.specs.Bytes.{word, word_at}
 use Rattle.slices.proofs.Choices.{both}
