@@ -243,8 +243,7 @@ pub fn m25p_bus_transact(
     if answer.number != 0 {
         return packed_answer(answer);
     }
-    let next = done.row;
-    rows::write(next, at, at + 1, row);
+    rows::write(&done.row[at..at + 1], at, row);
     packed_answer(answer)
 }
 
@@ -261,7 +260,6 @@ pub fn m25p_bus_wait(row: &mut [u8], array: &mut [u8], ticks: u32) -> u64
     if done.answer != 0 {
         return bare(done.answer);
     }
-    let next = done.row;
-    rows::write(next, 0, n, row);
+    rows::write(&done.row[..n], 0, row);
     bare(0)
 }
