@@ -80,10 +80,14 @@ fn exchange(line: &[u8]) -> Option<(bool, u8, &[u8])>
 }
 
 // The ticks of a line that has the form `w t`.
+#[tactic(auto, unfolding(crate::specs::Lines::is_wait))]
 fn ticks(line: &[u8]) -> Option<u32>
     ensures { result ≡ ticks_in line.now }
 {
-    number(line.strip_prefix(b"w ")?)
+    match line {
+        [b'w', b' ', text @ ..] => number(text),
+        _ => None,
+    }
 }
 
 // Whether a line is `p`.
@@ -100,6 +104,7 @@ fn store(text: &[u8], out: &mut [u8])
     ensures { out.new ≡ map_at (get_or (pairs text.now)) out.old }
 {
     let n = (text.len() / 2).min(out.len());
+    // by the index of the pair: tried, a `zip` with `out.iter_mut()` leaves nothing known of `out`
     for (i, byte) in out[..n].iter_mut().enumerate() {
         *byte = 16 * digit(text[2 * i]) + digit(text[2 * i + 1]);
     }
