@@ -12,14 +12,14 @@ pub executed-requires : goal.executed-requires
 executed-requires c =
     let a = c.args in
     let h = executed_short _ _ _ _ _ _ (sym c.judge.ensures ∙ c.in-Executed.is) in
-    let s = span-at a.device a.sent.now _ c.read_instruction-asked.ensures c.span_driven-span.ensures [] in
+    let s = span-at a.device a.sent.now _ c.read-asked.ensures c.span_driven-span.ensures [] in
     (omega (arith, h, s.0, first-le a.device [] a.sent.now), omega (arith, h, s.1, count-le a.device [] a.sent.now))
 
 pub returns-in-Executed : goal.returns-in-Executed
 unfolding outcome_of
 returns-in-Executed c =
     let a = c.args in
-    let i = c.read_instruction-asked.ensures in
+    let i = c.read-asked.ensures in
     let done = c.executed.ensures in
     foreseen-by a.device a.array a.sent.now a.pulses a.w a.response Executed (sym c.judge.ensures ∙ c.in-Executed.is)
     (ap (λ (o : Done). o.answer.missing) done)
