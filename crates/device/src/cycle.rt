@@ -62,7 +62,7 @@ pub struct Uses {
     pub pe: bool,
 }
 
-// A remembered cycle: its kind, its address, the 256 slots of a program or a page write, the settings that are being written, how many bytes a page write named; zero but for what its kind uses.
+// A remembered cycle: its kind, its address, the 256 slots of a program or a page write, the settings that are being written, how many bytes a page write named; zero but for what its kind uses. No enum with fields: packing and definitions hold each field, used or not.
 #[derive(Clone, Copy, Debug, PartialEq, Eq)]
 pub struct Cycle {
     pub kind: Kind,
@@ -247,7 +247,7 @@ impl Cycle {
         }
     }
 
-    // Cuts the cycle short.
+    // Cuts the cycle short. Not one with `complete`: each kind calls another function of `memory`, with another promise.
     pub(crate) fn cut_short(self, figures: Figures, array: &mut [u8], mask: &[u8])
         ensures { array.new ≡ map_at (cut figures self mask.now) array.old }
     {

@@ -30,7 +30,7 @@ pub enum Mode {
     Deep,
 }
 
-// A chip between two transactions. The four after the mode are how many ticks each kind of cycle takes; then the cycle that runs, and the lock register of each sector of an M25PE part, zero on the others.
+// A chip between two transactions. The four after the mode are how many ticks each kind of cycle takes; then the cycle that runs, and the lock register of each sector of an M25PE part, zero on the others. The part is a number, and the four no struct of their own: the definitions have these fields.
 #[derive(Clone, Copy, Debug, PartialEq, Eq)]
 pub struct Device {
     pub part: u8,
@@ -46,7 +46,7 @@ pub struct Device {
     pub locks: [u8; REGISTERS],
 }
 
-// The answer of a call that checks its record, by its number as the C calls hand it on, and the record handed back.
+// The answer of a call that checks its record, and the record handed back. The answer is a number: the definitions of the calls have it so.
 #[derive(Clone, Copy, Debug, PartialEq, Eq)]
 pub struct Checked {
     pub answer: u8,

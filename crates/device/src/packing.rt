@@ -1,9 +1,9 @@
 // The record packed in bytes, and read back.
-ghost use Rattle.std.specs.Prelude.{◌≡◌, ◌&&◌, ◌++◌, take, drop, IfOk};
+ghost use Rattle.std.specs.Prelude.{◌≡◌, ◌&&◌, ◌++◌, ◌+◌, ◌≤◌, take, drop, IfOk};
 ghost use Rattle.refusals.specs.Numbers.{answer_of};
 ghost use Rattle.slices.specs.Bytes.{same_bytes, word};
 ghost use Rattle.slices.specs.Changed.{map_at, stored};
-ghost use Rattle.device.specs.Packing.{front_length, named_place, locks_place, mode_number, ticks_of, mode_of, head_of, cycle_head, front_of, pack_of, cycle_at, fields_of, pack_answer, Packed, unpack_answer, unpack_of};
+ghost use Rattle.device.specs.Packing.{packed_length, front_length, named_place, mode_number, ticks_of, mode_of, head_of, cycle_head, front_of, pack_of, cycle_at, fields_of, pack_answer, Packed, unpack_answer, unpack_of};
 
 use crate::cycle::{Cycle, Kind};
 use crate::locks::REGISTERS;
@@ -105,22 +105,14 @@ pub fn write(d: Device, out: &mut [u8])
     write_rest(d, out);
 }
 
-// The slots of a packing.
-fn slots_in(b: &[u8; LENGTH]) -> [u8; 256]
-    ensures { result ≡ take 256 (drop front_length b.now) }
+// As many bytes of a packing as a field has, from a place on.
+fn part_in<const N: usize>(b: &[u8; LENGTH], from: usize) -> [u8; N]
+    requires { from + N ≤ packed_length }
+    ensures { result ≡ take N (drop from b.now) }
 {
-    let mut slots = [0; 256];
-    slots.copy_from_slice(&b[FRONT..NAMED]);
-    slots
-}
-
-// The lock registers of a packing.
-fn locks_in(b: &[u8; LENGTH]) -> [u8; REGISTERS]
-    ensures { result ≡ drop locks_place b.now }
-{
-    let mut locks = [0; REGISTERS];
-    locks.copy_from_slice(&b[LOCKS..]);
-    locks
+    let mut part = [0; N];
+    part.copy_from_slice(&b[from..from + N]);
+    part
 }
 
 // The cycle whose fields stand in the bytes, whether they are a packing or not. A byte that is no kind's is read as none.
@@ -130,7 +122,7 @@ fn cycle_in(b: &[u8; LENGTH]) -> Cycle
     Cycle {
         kind: Kind::try_from(b[28]).unwrap_or(Kind::Idle),
         address: slices::word_at(b, 32),
-        slots: slots_in(b),
+        slots: part_in(b, FRONT),
         bp: b[29],
         srwd: b[30] == 1,
         named: slices::word_at(b, NAMED),
@@ -152,7 +144,7 @@ fn fields(b: &[u8; LENGTH]) -> Device
         bulk_erase: slices::word_at(b, 20),
         write_status: slices::word_at(b, 24),
         cycle: cycle_in(b),
-        locks: locks_in(b),
+        locks: part_in(b, LOCKS),
     }
 }
 
@@ -178,11 +170,10 @@ fn packs(d: Device, room: usize) -> Result<(), Refusal>
     Ok(())
 }
 
-// Packs a record: 8 where `out` is not of `LENGTH` bytes, 6 where the record is not sound, with nothing written; else 0.
+// Packs a record. The answer is a number, as `Packed` has it: 8 where `out` is not of `LENGTH` bytes, 6 where the record is not sound, with nothing written; else 0.
 pub fn pack(d: Device, out: &mut [u8]) -> u8
     ensures { Packed d out.old result out.new }
 {
-    // by its number: the C calls hand it on
     if let Err(refusal) = packs(d, out.len()) {
         return refusal.into();
     }

@@ -38,6 +38,7 @@ pub struct M25pe40;
 // A part's figures as one value. `identifies` says whether Read Identification, 9F, exists; `sleeps` whether deep
 // power-down and its release, B9 and AB, do; `pe` whether it is an M25PE part, with 0A, DB, 20, E5, E8 and a lock
 // register for each sector, on which AB only releases. A part without subsectors has its sector's bytes there.
+// Flags and values side by side, not options: the definitions have each of these fields.
 #[derive(Clone, Copy, Debug, PartialEq, Eq)]
 pub struct Figures {
     pub bytes: usize,
@@ -223,7 +224,7 @@ impl Part for M25pe40 {
 }
 
 impl Figures {
-    // The figures of a part by its number. A number that is no part's has the bench part's figures.
+    // The figures of a part by its number, as the record and the C calls have it. A number that is no part's has the bench part's figures.
     pub fn of(part: u8) -> Self
         ensures { result ≡ figures_of part }
     {
