@@ -12,7 +12,7 @@ const LINE: usize = 6;
 const CHIP: usize = 4_096;
 
 // A wait of so many ticks, or a transaction with a chip and so many further pulses, with room for a response; W is high.
-#[derive(Clone, Copy)]
+#[derive(Clone, Copy, Debug, PartialEq, Eq)]
 pub enum Asked {
     Wait {
         ticks: u32,
@@ -25,14 +25,14 @@ pub enum Asked {
 }
 
 // What is asked of how many chips.
-#[derive(Clone, Copy)]
+#[derive(Clone, Copy, Debug, PartialEq, Eq)]
 pub struct Step {
     pub chips: usize,
     pub asked: Asked,
 }
 
 // What an entry answered, and the response as it is then.
-#[derive(Clone, Copy)]
+#[derive(Clone, Copy, Debug, PartialEq, Eq)]
 struct Told {
     answer: Answer,
     line: [u8; LINE],
@@ -160,16 +160,6 @@ impl Step {
 }
 
 impl Told {
-    // Whether another entry answered the same.
-    fn same(self, other: Self) -> bool {
-        let (x, y) = (self.answer, other.answer);
-        x.number == y.number
-            && x.first == y.first
-            && x.count == y.count
-            && x.missing == y.missing
-            && self.line == other.line
-    }
-
     // Prints the answer, and as much of the response as there is room for.
     fn print(self, rt: &impl Print, room: usize) -> io::Result<()> {
         let x = self.answer;
@@ -227,7 +217,7 @@ impl<const N: usize> Two<N> {
         print_chips(rt, &self.lent.array, &self.plain.array)?;
         rt.write_all(b"\n")?;
         let again = self.plain.plain(step, sent);
-        self.same &= told.same(again)
+        self.same &= told == again
             && self.lent.row == self.plain.row
             && self.lent.array == self.plain.array;
         Ok(())

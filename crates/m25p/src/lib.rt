@@ -18,7 +18,7 @@ ghost use Rattle.chip.specs.Outcome;
 // Rows of packed records.
 mod rows;
 
-use chip::Answer;
+use chip::{Answer, Done};
 use device::packing::{LENGTH, unpack};
 use device::{Checked, Device};
 use image::Reply;
@@ -28,8 +28,10 @@ fn packed_answer(answer: Answer) -> u64
     requires { answer.missing ≤ most_missing }
     ensures { result ≡ packed_answer answer }
 {
-    let seen = (answer.number as u64) + 256 * (answer.first as u64) + 65536 * (answer.count as u64);
-    seen + 281_474_976_710_656 * (answer.missing as u64)
+    let seen = u64::from(answer.number)
+        + 256 * u64::from(answer.first)
+        + 65536 * u64::from(answer.count);
+    seen + 281_474_976_710_656 * u64::from(answer.missing)
 }
 
 // An answer with nothing driven and no bits missing.
@@ -48,6 +50,25 @@ fn store(number: u8, next: Device, packed: &mut [u8])
     }
 }
 
+// A call that answers a number alone: its record stored, its answer packed.
+fn checked(done: Checked, packed: &mut [u8]) -> u64
+    ensures bytes { packed.new ≡ on_zero done.answer (map_at (stored 0 (pack_of done.device)) packed.old) packed.old }
+    ensures number { result ≡ packed_answer (Outcome.bare done.answer) }
+{
+    store(done.answer, done.device, packed);
+    bare(done.answer)
+}
+
+// A call that answers as a transaction does: its record stored, its answer packed.
+fn carried(done: Done, packed: &mut [u8]) -> u64
+    requires { done.answer.missing ≤ most_missing }
+    ensures bytes { packed.new ≡ on_zero done.answer.number (map_at (stored 0 (pack_of done.device)) packed.old) packed.old }
+    ensures number { result ≡ packed_answer done.answer }
+{
+    store(done.answer.number, done.device, packed);
+    packed_answer(done.answer)
+}
+
 // Delivers a part: the packed record is written and the array becomes FF.
 pub fn m25p_deliver(
     packed: &mut [u8],
@@ -64,8 +85,7 @@ pub fn m25p_deliver(
         return bare(8);
     }
     let done = chip::deliver(part, array, program, sector_erase, bulk_erase, write_status);
-    store(done.answer, done.device, packed);
-    bare(done.answer)
+    checked(done, packed)
 }
 
 // One transaction: W is low for 0, else high.
@@ -84,9 +104,7 @@ pub fn m25p_transact(
         return bare(came.answer);
     }
     let done = chip::transact(came.device, array, sent, pulses, w != 0, response);
-    let answer = done.answer;
-    store(answer.number, done.device, packed);
-    packed_answer(answer)
+    carried(done, packed)
 }
 
 // A call on the record and the array: refused where the packed bytes are of no sound record, and the next record is stored where it answers 0.
@@ -103,8 +121,7 @@ fn timed<F: FnOnce(Device, &mut [u8]) -> Checked>(
         return bare(came.answer);
     }
     let done = call(came.device, array);
-    store(done.answer, done.device, packed);
-    bare(done.answer)
+    checked(done, packed)
 }
 
 // Waits `ticks`: on the last tick of a cycle its effect comes.
@@ -141,9 +158,7 @@ pub fn m25p_pins(packed: &mut [u8], array: &mut [u8], samples: &[u8], output: &m
         return bare(came.answer);
     }
     let done = pins::run(came.device, array, samples, output);
-    let answer = done.answer;
-    store(answer.number, done.device, packed);
-    packed_answer(answer)
+    carried(done, packed)
 }
 
 // A batch: its items carried out in order, or nothing at all.
@@ -162,8 +177,7 @@ pub fn m25p_batch(
         return bare(came.answer);
     }
     let done = batch::run(came.device, array, items, responses, answers, missing);
-    store(done.answer, done.device, packed);
-    bare(done.answer)
+    checked(done, packed)
 }
 
 // A report: a batch carried out and counted, or nothing at all.
@@ -182,8 +196,7 @@ pub fn m25p_report(
         return bare(came.answer);
     }
     let done = report::run(came.device, array, items, responses, answers, totals);
-    store(done.answer, done.device, packed);
-    bare(done.answer)
+    checked(done, packed)
 }
 
 // An answer with a number of blocks where a transaction has its driven count.
@@ -192,10 +205,8 @@ fn blocks_answer(reply: Reply) -> u64
     ensures { result ≡ packed_answer (with_blocks reply) }
 {
     packed_answer(Answer {
-        number: reply.answer,
-        first: 0,
         count: reply.blocks as u32,
-        missing: 0,
+        ..Answer::bare(reply.answer)
     })
 }
 

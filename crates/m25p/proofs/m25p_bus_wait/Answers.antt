@@ -1,4 +1,5 @@
 -- `m25p::m25p_bus_wait` meets its contract.
+use Rattle.std.proofs.Common.{arith}
 use Rattle.m25p.proofs.Bus.{wait-odd, wait-kept, wait-fits, wait-wrote}
 use Rattle.m25p.proofs.m25p_bus_wait.Goals as goal
 
@@ -19,7 +20,8 @@ shared_ref_as_front-write c =
     let w = c in
     let r = w in
     let a = r.args in
-    (wait-fits a.row.now a.array.now a.ticks r.read-records.result r.read-records.ensures r.if-row-ne0.false w.wait-done.ensures c.if-done-ne0.false).0
+    let f = wait-fits a.row.now a.array.now a.ticks r.read-records.result r.read-records.ensures r.if-row-ne0.false w.wait-done.ensures c.if-done-ne0.false in
+    omega (arith, f.0)
 
 pub write-requires : goal.write-requires
 write-requires c =
