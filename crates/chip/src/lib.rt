@@ -91,13 +91,14 @@ fn execute(device: Device, array: &[u8], sent: &[u8], response: &mut [u8]) -> Do
     requires { length sent.now ≤ longest }
     ensures { Meets (outcome_of Executed device array.now sent.now response.old) result.answer result.device array.now response.new }
 {
-    let asked = table::read_instruction(device, sent);
+    let asked = Instruction::read(device, sent);
     let span = line::respond(device, asked, array, sent, response);
     let missing = change::missing_of(asked, sent, array);
     executed(device, asked, span, missing, sent)
 }
 
 // One transaction: the bytes sent, the further pulses, and the level of W as Chip Select rises. No transaction changes a byte of the array: a cycle does, at its end.
+// The bytes, the pulses and W each by itself, as the calls from C hand them.
 #[tactic(auto, using(crate::proofs::Laws::executed_short), unfolding(crate::specs::Outcome::transacted, crate::specs::Outcome::outcome_of))]
 pub fn transact(
     device: Device,
@@ -134,7 +135,7 @@ pub fn foreseen(
     match answers::judge(device, array, sent, pulses, w, response) {
         Verdict::Refused(number) | Verdict::Ignored(number) => Done::bare(number, device),
         Verdict::Executed => {
-            let asked = table::read_instruction(device, sent);
+            let asked = Instruction::read(device, sent);
             let span = line::span_driven(device, asked, sent.len());
             executed(device, asked, span, 0, sent)
         }
