@@ -5,13 +5,6 @@ ghost use Rattle.std.specs.Prelude.{◌≡◌, true};
 
 use std::io;
 
-// A byte as a number to print.
-pub fn wide(x: u8) -> u64
-    ensures { result ≡ x }
-{
-    x as u64
-}
-
 // Prints bytes in hexadecimal.
 pub fn print_bytes(rt: &impl Print, s: &[u8]) -> io::Result<()> {
     for x in s {
