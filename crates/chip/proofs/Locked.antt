@@ -35,7 +35,7 @@ use Rattle.chip.specs.Events.{Chip, Event, sends, waits, starts, loses, every, g
 use Rattle.chip.specs.Locked.{register, Locked, Held, LockHolds}
 use Rattle.chip.proofs.Areas.{area-less, cycle-area, area-spares}
 use Rattle.chip.proofs.Records.{TurnLaw, turn-law}
-use Rattle.chip.proofs.Rules.{outcome-ind, array-stays}
+use Rattle.chip.proofs.Rules.{outcome-ind, array-stays, executed-one}
 use Rattle.chip.proofs.Events.{every_append, after-length, after-part}
 
 -- ---- which calls change a lock register
@@ -50,17 +50,13 @@ turned-locks Sleep f d at sent code least busy l = inl refl
 turned-locks Wake f d at sent code least busy l = inl refl
 turned-locks Lock f d at sent code least busy l = inr l.2
 
-with-zero : {A B : Type 0} → A ⊎ B → A ⊎ (B × (◌≡◌ {A = ℕ} 0 0))
-with-zero (inl a) = inl a
-with-zero (inr b) = inr (b, refl)
-
 -- THEOREM: of the transactions, only an executed E5 changes lock registers
 pub only-e5-locks : (d : Device) (array sent : List ℕ) (pulses : ℕ) (w : Bool) (response : List ℕ)
     → ((transacted d array sent pulses w response).device.locks ≡ d.locks) ⊎ ((get_or sent 0 0 ≡ 0xE5) × ((transacted d array sent pulses w response).answer.number ≡ 0))
 unfolding outcome_of
 only-e5-locks d array sent pulses w response =
     outcome-ind d array sent pulses w response (λ (o : Outcome). (o.device.locks ≡ d.locks) ⊎ ((get_or sent 0 0 ≡ 0xE5) × (o.answer.number ≡ 0))) (λ a. inl refl) (λ h b. inl refl)
-    (λ h t. with-zero (turned-locks (row_in d sent).turn (figures_of d.part) d (address_of (figures_of d.part) sent) sent (get_or sent 0 0) (row_in d sent).least (row_in d sent).busy (turn-law (figures_of d.part) (get_or sent 0 0))))
+    (λ h t. executed-one (turned-locks (row_in d sent).turn (figures_of d.part) d (address_of (figures_of d.part) sent) sent (get_or sent 0 0) (row_in d sent).least (row_in d sent).busy (turn-law (figures_of d.part) (get_or sent 0 0))))
 
 over-locks : (d : Device) (told : Bool) → (after_cycle d told).locks ≡ d.locks
 unfolding after_cycle ended moded remembering settled

@@ -1,11 +1,11 @@
 // The answer numbers: the first that applies.
-ghost use Rattle.std.specs.Prelude.{◌≡◌, cond, not, ◌&&◌, length};
+ghost use Rattle.std.specs.Prelude.{◌≡◌, cond, not, ◌&&◌};
 ghost use Rattle.refusals.specs.Numbers.{answer_of};
 ghost use Rattle.parts.specs.Parts.{figures_of};
-ghost use Rattle.chip.specs.Answers.{host_number, writes_settings, in_protected, protected_at, protected_any, guarded_in, guarded, frozen, as_needed, chip_number, verdict_of};
+ghost use Rattle.chip.specs.Answers.{host_number, writes_settings, in_protected, protected_at, protected_any, guarded_in, guarded, frozen, as_needed, chip_number, decided};
 
 use crate::LONGEST;
-use crate::table::{Row, Turn, read_instruction};
+use crate::table::{Instruction, Row, Turn};
 use device::cycle::{Kind, Uses};
 use device::locks::{any_stops, freezes, lock_of, sector_of, stops};
 use device::{Device, is_busy, is_deep};
@@ -61,9 +61,10 @@ fn in_protected(figures: Figures, bp: u8, at: u32) -> bool
 
 // Whether the sector of an address is protected, by BP or by its lock register.
 #[tactic(auto, unfolding(crate::specs::Answers::protected_at))]
-fn protected_at(figures: Figures, device: Device, at: u32) -> bool
-    ensures { result ≡ protected_at figures device at }
+fn protected_at(device: Device, at: u32) -> bool
+    ensures { result ≡ protected_at (figures_of device.part) device at }
 {
+    let figures = Figures::of(device.part);
     in_protected(figures, device.bp, at) || stops(lock_of(figures, device.locks, at))
 }
 
@@ -76,31 +77,25 @@ fn protected_any(device: Device) -> bool
 }
 
 // What guards a cycle: the protected sector that it would write in; of a bulk erase any.
-fn is_guarded(kind: Kind, figures: Figures, device: Device, at: u32) -> bool
-    ensures { result ≡ guarded_in kind figures device at }
+fn is_guarded(kind: Kind, device: Device, at: u32) -> bool
+    ensures { result ≡ guarded_in kind (figures_of device.part) device at }
 {
     match kind {
         Kind::Idle | Kind::Settings => false,
         Kind::All => protected_any(device),
         Kind::Page | Kind::Sector | Kind::PageWrite | Kind::PageErase | Kind::Subsector => {
-            protected_at(figures, device, at)
+            protected_at(device, at)
         }
     }
 }
 
 // Whether nothing guards an instruction: 17 where its cycle is guarded, 18 and 19 where the settings or the lock register are frozen.
-fn guard_accepts(
-    turn: Turn,
-    figures: Figures,
-    device: Device,
-    w: bool,
-    at: u32,
-) -> Result<(), Refusal>
-    ensures { answer_of result ≡ cond (guarded turn figures device at) 17 (cond (writes_settings turn && device.srwd && not w) 18 (cond (frozen turn figures device at) 19 0)) }
+fn guard_accepts(turn: Turn, device: Device, w: bool, at: u32) -> Result<(), Refusal>
+    ensures { answer_of result ≡ cond (guarded turn (figures_of device.part) device at) 17 (cond (writes_settings turn && device.srwd && not w) 18 (cond (frozen turn (figures_of device.part) device at) 19 0)) }
 {
     match turn {
         Turn::Start(kind) => {
-            if is_guarded(kind, figures, device, at) {
+            if is_guarded(kind, device, at) {
                 return Err(Refusal::Protected);
             }
             let uses = Uses::of(kind);
@@ -110,7 +105,7 @@ fn guard_accepts(
             Ok(())
         }
         Turn::Lock => {
-            if freezes(lock_of(figures, device.locks, at)) {
+            if freezes(lock_of(Figures::of(device.part), device.locks, at)) {
                 return Err(Refusal::LockFrozen);
             }
             Ok(())
@@ -119,12 +114,14 @@ fn guard_accepts(
     }
 }
 
-// Whether n and the further pulses are as the row needs.
-#[tactic(auto, unfolding(crate::specs::Answers::as_needed))]
-fn as_needed(row: Row, n: usize, pulses: u32) -> bool
-    ensures { result ≡ as_needed row n pulses }
-{
-    row.least <= n && n <= row.most && (!row.no_pulses || pulses == 0)
+impl Row {
+    // Whether n and the further pulses are as needed.
+    #[tactic(auto, unfolding(crate::specs::Answers::as_needed))]
+    fn as_needed(self, n: usize, pulses: u32) -> bool
+        ensures { result ≡ as_needed self n pulses }
+    {
+        self.least <= n && n <= self.most && (!self.no_pulses || pulses == 0)
+    }
 }
 
 // Whether the chip takes an instruction: what it ignores in its order, 11, 14, 12, 13, 15, 16, 17, 18, 19.
@@ -151,32 +148,31 @@ fn chip_accepts(
     if is_deep(device.mode) && !row.deep {
         return Err(Refusal::WhileDeep);
     }
-    if !as_needed(row, n, pulses) {
+    if !row.as_needed(n, pulses) {
         return Err(Refusal::OddLength);
     }
     if row.latch && !device.latch {
         return Err(Refusal::LatchReset);
     }
-    guard_accepts(row.turn, Figures::of(device.part), device, w, at)
+    guard_accepts(row.turn, device, w, at)
 }
 
-// What becomes of a transaction with an array and a response of these lengths.
-#[tactic(auto, using(crate::proofs::Verdicts::refusal_some), unfolding(crate::specs::Answers::verdict_of, crate::specs::Answers::decided))]
+// What becomes of a transaction of n bytes with an array and a response of these lengths.
+#[tactic(auto, using(crate::proofs::Verdicts::refusal_some), unfolding(crate::specs::Answers::decided))]
 pub(crate) fn judge(
     device: Device,
+    asked: Instruction,
     array: usize,
-    sent: &[u8],
+    n: usize,
     pulses: u32,
     w: bool,
     response: usize,
 ) -> Verdict
-    ensures { result ≡ verdict_of device array sent.now pulses w response }
+    ensures { result ≡ decided (host_number device array n pulses response) (chip_number device asked.row n pulses w asked.address) }
 {
-    let n = sent.len();
     if let Err(refusal) = host_accepts(device, array, n, pulses, response) {
         return Verdict::Refused(refusal.into());
     }
-    let asked = read_instruction(device, sent);
     if let Err(refusal) = chip_accepts(device, asked.row, n, pulses, w, asked.address) {
         return Verdict::Ignored(refusal.into());
     }

@@ -5,7 +5,7 @@ ghost use Rattle.device.specs.Device.{status_byte};
 ghost use Rattle.chip.specs.Line.{kth, on_line, line_byte, heard, driven, span_of, from_on, Responded};
 ghost use Rattle.chip.specs.Table.{only_if, instruction_in};
 
-use crate::table::{Drive, Instruction, Row, read_instruction};
+use crate::table::{Drive, Instruction, Row};
 use device::locks::lock_of;
 use device::{Device, is_busy, is_deep};
 use parts::Figures;
@@ -66,26 +66,28 @@ fn span_of(how: Drive, from: usize, n: usize) -> Span
     }
 }
 
-// Whether an instruction is taken at all.
-#[tactic(auto, unfolding(crate::specs::Line::heard))]
-fn is_heard(device: Device, row: Row) -> bool
-    ensures { result ≡ heard device row }
-{
-    row.known && (!is_busy(device.mode) || row.busy) && (!is_deep(device.mode) || row.deep)
-}
+impl Row {
+    // Whether the instruction is taken at all.
+    #[tactic(auto, unfolding(crate::specs::Line::heard))]
+    fn is_heard(self, device: Device) -> bool
+        ensures { result ≡ heard device self }
+    {
+        self.known && (!is_busy(device.mode) || self.busy) && (!is_deep(device.mode) || self.deep)
+    }
 
-// The row that the chip goes by: an instruction that is not taken at all is as an unknown one.
-fn row_heard(device: Device, asked: Instruction) -> Row
-    ensures { result ≡ only_if (heard device asked.row) asked.row }
-{
-    asked.row.only_if(is_heard(device, asked.row))
+    // The row that the chip goes by: an instruction that is not taken at all is as an unknown one.
+    fn heard(self, device: Device) -> Self
+        ensures { result ≡ only_if (heard device self) self }
+    {
+        self.only_if(self.is_heard(device))
+    }
 }
 
 // Where a transaction of n bytes drives, which no byte of the array changes.
 pub(crate) fn span_driven(device: Device, asked: Instruction, n: usize) -> Span
     ensures { result ≡ span_of (only_if (heard device asked.row) asked.row).drive (only_if (heard device asked.row) asked.row).from n }
 {
-    let row = row_heard(device, asked);
+    let row = asked.row.heard(device);
     span_of(row.drive, row.from, n)
 }
 
@@ -100,7 +102,7 @@ pub(crate) fn respond(
     requires { asked ≡ instruction_in device sent.now }
     ensures { Responded device array.now sent.now response.old result response.new }
 {
-    let row = row_heard(device, asked);
+    let row = asked.row.heard(device);
     let n = sent.len().min(response.len());
     let start = row.from.min(n);
     slices::fill_part(response, 0, start, 0xFF);
@@ -150,8 +152,8 @@ fn kth_byte(
 pub fn driven_byte(device: Device, array: &[u8], before: &[u8]) -> Option<u8>
     ensures { result ≡ line_byte (driven device array.now before.now) }
 {
-    let asked = read_instruction(device, before);
-    let row = row_heard(device, asked);
+    let asked = Instruction::read(device, before);
+    let row = asked.row.heard(device);
     if before.len() < row.from {
         return None;
     }

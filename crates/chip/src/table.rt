@@ -31,6 +31,7 @@ pub enum Drive {
 }
 
 // A row: what is needed (n from least to most, no further pulses, the latch), whether it is taken while busy and in deep power-down, what it does, what it drives from which byte on.
+// `known` and not an `Option` of a row: `row_of`, of which the theorems speak, has a row for every code.
 #[derive(Clone, Copy, Debug, PartialEq, Eq)]
 pub struct Row {
     pub known: bool,
@@ -186,14 +187,16 @@ pub struct Instruction {
     pub address: u32,
 }
 
-// The instruction that is sent.
-pub(crate) fn read_instruction(device: Device, sent: &[u8]) -> Instruction
-    ensures { result ≡ instruction_in device sent.now }
-{
-    let figures = Figures::of(device.part);
-    Instruction {
-        figures,
-        row: decode(figures, slices::byte_at(sent, 0)),
-        address: address(figures, sent),
+impl Instruction {
+    // The instruction that is sent.
+    pub(crate) fn read(device: Device, sent: &[u8]) -> Self
+        ensures { result ≡ instruction_in device sent.now }
+    {
+        let figures = Figures::of(device.part);
+        Instruction {
+            figures,
+            row: decode(figures, slices::byte_at(sent, 0)),
+            address: address(figures, sent),
+        }
     }
 }
