@@ -2,6 +2,7 @@
 -- Assumes nothing.
 use mathlib.Core.Path.{◌≡◌, refl, sym, ap, ◌∙◌}
 use mathlib.Core.Bool.{Bool, true, false, cond, ◌&&◌}
+use Rattle.std.proofs.Math.Bool.{and_assoc}
 use mathlib.Core.List.{List, [], ◌∷◌, ◌++◌}
 use Prim.Native.Nat.{ℕ, zero, suc, ◌+◌, ◌-◌, ◌≤◌, ◌<◌}
 use native.Mathlib.Nat.{zero-add, add_assoc}
@@ -53,14 +54,10 @@ pub missed-append : (a b : List Event) (c : Chip) → missed (a ++ b) c ≡ miss
 missed-append [] b c = sym (zero-add (missed b c))
 missed-append (e ∷ a) b c = ap (λ (n : ℕ). (reply e c).answer.missing + n) (missed-append a b (after e c)) ∙ sym (add_assoc (reply e c).answer.missing (missed a (after e c)) (missed b (run a (after e c))))
 
-and_assoc : (a b c : Bool) → a && (b && c) ≡ a && b && c
-and_assoc true b c = refl
-and_assoc false b c = refl
-
 -- a test of an appended list
 pub every_append : (test : Event → Bool) (a b : List Event) → every test (a ++ b) ≡ every test a && every test b
 every_append test [] b = refl
-every_append test (e ∷ a) b = ap (λ (t : Bool). test e && t) (every_append test a b) ∙ and_assoc (test e) (every test a) (every test b)
+every_append test (e ∷ a) b = ap (λ (t : Bool). test e && t) (every_append test a b) ∙ sym (and_assoc (test e) (every test a) (every test b))
 
 -- ---- what every event keeps, every list keeps
 

@@ -3,52 +3,33 @@
 use mathlib.Core.Path.{◌≡◌, refl, sym, ap, ◌∙◌}
 use mathlib.Core.Bool.{Bool, true, false, cond}
 use mathlib.Core.List.{List, [], ◌∷◌}
-use mathlib.Core.Logic.{◌⊎◌, inl, inr}
-use Prim.Native.Nat.{ℕ, suc, ◌+◌, ◌-◌, ◌%◌, ◌≤◌, ◌<◌, min}
-use native.Mathlib.Nat.{le_refl, le_of_lt, zero-add, mod-eq_of_lt}
+use Prim.Native.Nat.{ℕ, suc, ◌+◌, ◌-◌, ◌≤◌, ◌<◌, min}
+use native.Mathlib.Nat.{zero-add}
 use native.Mathlib.Omega.{arith}
-use borrow.Author.Tests.{lt-ltb, le-ltb, lt-leb, leb-true, leb-false}
-use lib.Dec.{eqb, leb}
-use lib.ListN.{length, get_or, take, drop, replicate, length-drop, length-replicate, drop_of_length-le}
-use lib.Seq.{take_all}
+use borrow.Author.Tests.{lt-ltb, le-ltb}
+use lib.Dec.{eqb}
+use lib.ListN.{length, get_or, take, replicate, length-replicate}
 use Rattle.slices.specs.Changed.{map_at, window, put, sum_from, sum_at}
 use Rattle.slices.proofs.Maps.{map-agree}
-use Rattle.slices.proofs.Choices.{other}
 use Rattle.slices.proofs.Windows.{window_more, window-rest, window-ext}
 use Rattle.parts.specs.declared.Figures.{Figures}
 use Rattle.parts.specs.Parts.{figures_of}
 use Rattle.device.specs.declared.Device.{Device}
-use Rattle.device.specs.Device.{status_byte, on_zero, zero_record, delivered}
+use Rattle.device.specs.Device.{status_byte}
 use Rattle.device.specs.declared.Checked.{Checked}
 use Rattle.device.proofs.Outcomes.{same-checked}
 use Rattle.chip.specs.declared.table.Row.{Row}
 use Rattle.chip.specs.declared.table.Instruction.{Instruction}
 use Rattle.chip.specs.declared.line.Span.{Span}
 use Rattle.chip.specs.declared.answers.Verdict.{Verdict}
+use Rattle.chip.specs.declared.answers.Verdict.TheVariants.{Executed}
 use Rattle.chip.specs.declared.Answer.{Answer}
 use Rattle.chip.specs.Table.{address_of, only_if, instruction_in}
-use Rattle.chip.specs.Answers.{host_number, chip_number, decided, verdict_of, delivery_answer}
+use Rattle.chip.specs.Answers.{verdict_of}
 use Rattle.chip.specs.Line.{Driven, silent, drives, on_line, kth, heard, heard_row, driven, lined, driving, driving_at, first_from, first_of, count_of, span_of}
-use Rattle.chip.specs.Outcome.{Outcome, outcome_of, transacted, Meets, Transacted, Foreseen, Delivered}
+use Rattle.chip.specs.Outcome.{Outcome, outcome_of, transacted, Meets, Foreseen, Delivered}
 use Rattle.chip.proofs.Lines.{driven-from, driven-before, span-is}
-
-le-or-le : (m n : ℕ) (b : Bool) → leb m n ≡ b → (m ≤ n) ⊎ (n ≤ m)
-le-or-le m n true e = inl (leb-true m n e)
-le-or-le m n false e = inr (le_of_lt (leb-false m n e))
-
--- the data, lent as `&sent[from..]`
-pub tail-is : (sent : List ℕ) (from : ℕ) → from ≡ min 4 (length sent) → take (length sent - from) (drop from sent) ≡ drop 4 sent
-tail-is sent from e =
-    let k : length (drop from sent) ≤ length sent - from = simp length-drop (le_refl _) in
-    take_all (length sent - from) (drop from sent) k ∙ same (le-or-le 4 (length sent) (leb 4 (length sent)) refl)
-  where
-    same : (4 ≤ length sent) ⊎ (length sent ≤ 4) → drop from sent ≡ drop 4 sent
-    same (inl h) = let z : from ≡ 4 = omega arith in rw z
-    same (inr h) = let z : length sent ≤ from = omega arith in drop_of_length-le sent z ∙ sym (drop_of_length-le sent h)
-
--- how long it is
-pub tail-length : (sent : List ℕ) (from : ℕ) → from ≡ min 4 (length sent) → length sent - from ≡ length (drop 4 sent)
-tail-length sent from e = simp length-drop (omega arith)
+use Rattle.chip.proofs.Verdicts.{executed}
 
 module _ (d : Device) (array sent : List ℕ) where
   -- the code's two steps give the line
@@ -101,19 +82,14 @@ pub count-le : (d : Device) (array sent : List ℕ) → count_of d array sent �
 unfolding count_of sum_at driving_at
 count-le d array sent = sum-within 0 (λ i x. driving_at d array sent i) sent (λ i x. driving-few (driven d array (take i sent)))
 
+-- both bounds
+pub ruleset span_bounds = (first-le, count-le)
+
 -- ---- the promise, by the verdict
 
--- what the code judges of the instruction that it read is the verdict
-pub verdict-so : (d : Device) (array : ℕ) (sent : List ℕ) (pulses : ℕ) (w : Bool) (response : ℕ) (i : Instruction) {v : Verdict} → i ≡ instruction_in d sent
-    → v ≡ decided (host_number d array (length sent) pulses response) (chip_number d i.row (length sent) pulses w i.address) → verdict_of d array sent pulses w response ≡ v
-unfolding verdict_of
-verdict-so d array sent pulses w response i e h = sym (h ∙ rw e)
-
-pub by-verdict : (d : Device) (array sent : List ℕ) (pulses : ℕ) (w : Bool) (response : List ℕ) (v : Verdict) → verdict_of d (length array) sent pulses w (length response) ≡ v
-    → {a : Answer} {next : Device} {array' response' : List ℕ} → Meets (outcome_of v d array sent response) a next array' response'
-    → Transacted d array sent pulses w response a next array' response'
-unfolding transacted
-by-verdict d array sent pulses w response v e m = rw e m
+-- what is executed is no longer than the longest
+pub executed_short : (d : Device) (array : ℕ) (sent : List ℕ) (pulses : ℕ) (w : Bool) (response : ℕ) → verdict_of d array sent pulses w response ≡ Executed → length sent ≤ 65536
+executed_short d array sent pulses w response e = (executed d array sent pulses w response e).0.short
 
 -- ---- a transaction foreseen
 
@@ -159,33 +135,3 @@ one-outcome s t = (s.answer ∙ sym t.answer, s.device ∙ sym t.device, s.memor
 pub one-delivery : {part : ℕ} {array : List ℕ} {program sector bulk status : ℕ} {r s : Checked} {array' array'' : List ℕ}
     → Delivered part array program sector bulk status r array' → Delivered part array program sector bulk status s array'' → (r ≡ s) × (array' ≡ array'')
 one-delivery p q = (same-checked (p.answer ∙ sym q.answer) (p.device ∙ sym q.device), p.memory ∙ sym q.memory)
-
--- a part number above 255 is no part's
-pub large : (part array p s b t : ℕ) → 255 < part → delivery_answer part array p s b t ≡ 1
-unfolding delivery_answer
-large part array p s b t h = let k : 6 < part = omega arith in rw (lt-leb part 6 k)
-
--- refused: the number, the all-zero record, the array as it was
-pub refused-delivery : (part : ℕ) (array : List ℕ) (p s b t k : ℕ) {r : Checked} → k ≡ delivery_answer part (length array) p s b t → (k ≡ 0 → ⊥) → r.answer ≡ k → r.device ≡ zero_record
-    → Delivered part array p s b t r array
-refused-delivery part array p s b t k e n a d =
-    record { answer = a ∙ e; device = d ∙ (other k (delivered part p s b t) zero_record n ∙ ap (λ (m : ℕ). on_zero m (delivered part p s b t) zero_record) e); memory = other k (map_at (put 255) array) array n ∙ ap (λ (m : ℕ). on_zero m (map_at (put 255) array) array) e }
-
--- executed: a part number of one byte, the record as delivered, the array all FF
-pub executed-delivery : (part : ℕ) (array array' : List ℕ) (p s b t k : ℕ) {r : Checked} → k ≡ delivery_answer part (length array) p s b t → k ≡ 0 → r.answer ≡ 0 → r.device ≡ delivered part p s b t
-    → array' ≡ map_at (put 255) array → Delivered part array p s b t r array'
-executed-delivery part array array' p s b t k e z a d m =
-    let q : delivery_answer part (length array) p s b t ≡ 0 = sym e ∙ z in
-    record { answer = a ∙ sym q; device = rw q d; memory = rw q m }
-
--- a delivery that is executed names a part, whose number fits a byte
-pub small : (part array p s b t : ℕ) → delivery_answer part array p s b t ≡ 0 → part % 256 ≡ part
-unfolding delivery_answer
-small part array p s b t e = go (leb part 255) refl
-  where
-    no : ◌≡◌ {A = ℕ} 1 0 → ⊥
-    no e = omega arith
-
-    go : (c : Bool) → leb part 255 ≡ c → part % 256 ≡ part
-    go true q = let k = leb-true part 255 q in mod-eq_of_lt (omega arith)
-    go false q = let k = leb-false part 255 q in absurd (no (sym (large part array p s b t k) ∙ e))

@@ -23,6 +23,7 @@ use Rattle.device.specs.Cycles.{uses_of}
 use Rattle.device.specs.Device.{is_busy, is_deep, status_byte}
 use Rattle.device.specs.declared.cycle.Kind.{Kind}
 use Rattle.chip.specs.declared.table.Turn.{Turn}
+use Rattle.chip.specs.declared.table.Turn.TheVariants.{Keep}
 use Rattle.chip.specs.declared.table.Drive.{Drive}
 use Rattle.chip.specs.declared.table.Drive.TheVariants.{Nothing, Identification, Status, Array, Signature, Register}
 use Rattle.chip.specs.declared.table.Row.{Row}
@@ -76,18 +77,23 @@ order-laws t = quiet-laws (order t) refl (lit≤ tt) (lit≤ tt)
 write-laws : (n m : ℕ) (t : Turn) → RowLaws (write n m t)
 write-laws n m t = quiet-laws (write n m t) refl (lit≤ tt) (lit≤ tt)
 
+-- a reading that keeps the record
+keep-laws : (r : Row) → r.turn ≡ Keep → r.most ≡ longest → r.no_pulses ≡ false → r.latch ≡ false → r.least ≤ r.from → 1 ≤ r.from → r.from ≤ 5 → earliest r.drive ≤ r.from → RowLaws r
+keep-laws r t m p l n c s e =
+    reading-laws r c s e (record { enough = n; unbounded = m; pulsed = p; unlatched = l; startless = λ by other. rw t refl; lockless = rw t refl })
+
 pub row_laws : (f : Figures) (code : ℕ) → RowLaws (row_of f code)
 row_laws f =
     rows-ind (λ code r. RowLaws r) f (order-laws _) (order-laws _)
-    (λ e. reading-laws _ (lit≤ tt) (lit≤ tt) (lit≤ tt) (record { enough = lit≤ tt; unbounded = refl; pulsed = refl; unlatched = refl; startless = λ by other. refl; lockless = refl }))
-    (reading-laws _ (lit≤ tt) (lit≤ tt) (lit≤ tt) (record { enough = lit≤ tt; unbounded = refl; pulsed = refl; unlatched = refl; startless = λ by other. refl; lockless = refl }))
+    (λ e. keep-laws _ refl refl refl refl (lit≤ tt) (lit≤ tt) (lit≤ tt) (lit≤ tt))
+    (keep-laws _ refl refl refl refl (lit≤ tt) (lit≤ tt) (lit≤ tt) (lit≤ tt))
     (write-laws _ _ _)
-    (reading-laws _ (lit≤ tt) (lit≤ tt) (lit≤ tt) (record { enough = lit≤ tt; unbounded = refl; pulsed = refl; unlatched = refl; startless = λ by other. refl; lockless = refl }))
-    (reading-laws _ (lit≤ tt) (lit≤ tt) (lit≤ tt) (record { enough = lit≤ tt; unbounded = refl; pulsed = refl; unlatched = refl; startless = λ by other. refl; lockless = refl }))
+    (keep-laws _ refl refl refl refl (lit≤ tt) (lit≤ tt) (lit≤ tt) (lit≤ tt))
+    (keep-laws _ refl refl refl refl (lit≤ tt) (lit≤ tt) (lit≤ tt) (lit≤ tt))
     (write-laws _ _ _) (write-laws _ _ _) (write-laws _ _ _) (λ e. order-laws _)
     (λ e. reading-laws _ (lit≤ tt) (lit≤ tt) (lit≤ tt) (record { enough = lit≤ tt; unbounded = refl; pulsed = refl; unlatched = refl; startless = λ by other. refl; lockless = refl }))
     (λ e. quiet-laws _ refl (lit≤ tt) (lit≤ tt)) (λ e. write-laws _ _ _) (λ e. write-laws _ _ _) (λ e. write-laws _ _ _) (λ e. write-laws _ _ _)
-    (λ e. reading-laws _ (lit≤ tt) (lit≤ tt) (lit≤ tt) (record { enough = lit≤ tt; unbounded = refl; pulsed = refl; unlatched = refl; startless = λ by other. refl; lockless = refl }))
+    (λ e. keep-laws _ refl refl refl refl (lit≤ tt) (lit≤ tt) (lit≤ tt) (lit≤ tt))
     (λ code. unknown-laws)
 
 -- a row that needs the latch, no further pulses or an exact n drives nothing

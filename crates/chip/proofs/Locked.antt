@@ -1,11 +1,11 @@
 -- Lock registers: which calls change one, and what a sector is worth that is write-locked and frozen.
 -- Assumes nothing.
 use mathlib.Core.Path.{◌≡◌, refl, sym, ap, ◌∙◌}
-use mathlib.Core.Bool.{Bool, true, false, cond, ◌&&◌, ◌||◌, true≢false, false≢true}
+use mathlib.Core.Bool.{Bool, true, false, cond, ◌&&◌, true≢false, false≢true}
 use mathlib.Core.Logic.{◌⊎◌, inl, inr}
 use mathlib.Core.List.{List, [], ◌∷◌}
 use Prim.Native.Nat.{ℕ, ◌-◌, ◌/◌, ◌<◌}
-use borrow.Author.Tests.{eqb-true, eqb-false, eq-eqb}
+use borrow.Author.Tests.{eqb-true}
 use lib.Dec.{eqb, ltb}
 use lib.ListN.{length, get_or, replicate}
 use Rattle.slices.proofs.Choices.{cond_ind, zero-ind, both}
@@ -18,24 +18,24 @@ use Rattle.device.specs.declared.Mode.TheVariants.{Standby, Busy, Deep}
 use Rattle.device.specs.declared.Device.{Device}
 use Rattle.device.specs.declared.cycle.Kind.{Kind}
 use Rattle.device.specs.Chip.{chip}
-use Rattle.device.specs.Locks.{no_locks, stops, freezes, lock_of, any_stops, relocked}
+use Rattle.device.specs.Locks.{no_locks, stops, freezes, lock_of, any_stops}
 use Rattle.device.specs.Cycles.{uses_of, no_cycle, touched}
 use Rattle.device.specs.Device.{is_busy, moded, settled, locked, remembering, running, started, ended, sound}
 use Rattle.device.specs.Device as record_is
-use Rattle.device.specs.Time.{after_cycle, finished, unlocked, powered_up, lost, waited_in, waited, time_number, mask_number, wait_call, power_up_call, loss_call}
+use Rattle.device.specs.Time.{after_cycle, finished, unlocked, powered_up, lost, waited_in, waited, time_number, wait_call, power_up_call, loss_call}
 use Rattle.device.proofs.Registers.{neither, none-stops, relocked-other}
 use Rattle.device.proofs.Sound.{idle-cycle}
 use Rattle.chip.specs.declared.table.Turn.{Turn}
 use Rattle.chip.specs.declared.table.Turn.TheVariants.{Keep, Enable, Disable, Start, Sleep, Wake, Lock}
 use Rattle.chip.specs.Table.{row_in, address_of}
 use Rattle.chip.specs.Answers.{in_protected, protected_at, protected_any, by_area, guarded_in, guarded, frozen}
-use Rattle.chip.specs.Change.{cycle_of, turned}
+use Rattle.chip.specs.Change.{turned}
 use Rattle.chip.specs.Outcome.{Outcome, outcome_of, transacted}
-use Rattle.chip.specs.Events.{Chip, Good, Event, sends, waits, starts, loses, every, goes_on, sent, after, run}
+use Rattle.chip.specs.Events.{Chip, Event, sends, waits, starts, loses, every, goes_on, sent, after, run}
 use Rattle.chip.specs.Locked.{register, Locked, Held, LockHolds}
 use Rattle.chip.proofs.Areas.{area-less, cycle-area, area-spares}
 use Rattle.chip.proofs.Records.{TurnLaw, turn-law}
-use Rattle.chip.proofs.Rules.{outcome-ind, array-stays}
+use Rattle.chip.proofs.Rules.{outcome-ind, array-stays, executed-one}
 use Rattle.chip.proofs.Events.{every_append, after-length, after-part}
 
 -- ---- which calls change a lock register
@@ -50,17 +50,13 @@ turned-locks Sleep f d at sent code least busy l = inl refl
 turned-locks Wake f d at sent code least busy l = inl refl
 turned-locks Lock f d at sent code least busy l = inr l.2
 
-with-zero : {A B : Type 0} → A ⊎ B → A ⊎ (B × (◌≡◌ {A = ℕ} 0 0))
-with-zero (inl a) = inl a
-with-zero (inr b) = inr (b, refl)
-
 -- THEOREM: of the transactions, only an executed E5 changes lock registers
 pub only-e5-locks : (d : Device) (array sent : List ℕ) (pulses : ℕ) (w : Bool) (response : List ℕ)
     → ((transacted d array sent pulses w response).device.locks ≡ d.locks) ⊎ ((get_or sent 0 0 ≡ 0xE5) × ((transacted d array sent pulses w response).answer.number ≡ 0))
 unfolding outcome_of
 only-e5-locks d array sent pulses w response =
     outcome-ind d array sent pulses w response (λ (o : Outcome). (o.device.locks ≡ d.locks) ⊎ ((get_or sent 0 0 ≡ 0xE5) × (o.answer.number ≡ 0))) (λ a. inl refl) (λ h b. inl refl)
-    (λ h t. with-zero (turned-locks (row_in d sent).turn (figures_of d.part) d (address_of (figures_of d.part) sent) sent (get_or sent 0 0) (row_in d sent).least (row_in d sent).busy (turn-law (figures_of d.part) (get_or sent 0 0))))
+    (λ h t. executed-one (turned-locks (row_in d sent).turn (figures_of d.part) d (address_of (figures_of d.part) sent) sent (get_or sent 0 0) (row_in d sent).least (row_in d sent).busy (turn-law (figures_of d.part) (get_or sent 0 0))))
 
 over-locks : (d : Device) (told : Bool) → (after_cycle d told).locks ≡ d.locks
 unfolding after_cycle ended moded remembering settled

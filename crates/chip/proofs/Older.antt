@@ -1,11 +1,11 @@
 -- The older M25P10-A, part 5, does what part 1 does, but for Read Identification.
 -- Assumes nothing.
 use mathlib.Core.Path.{◌≡◌, refl, sym, ap, ap₂, ◌∙◌}
-use mathlib.Core.Bool.{Bool, true, false, cond, not, ◌&&◌, false≢true}
+use mathlib.Core.Bool.{Bool, true, false, cond, ◌&&◌, false≢true}
 use mathlib.Core.List.{List, [], ◌∷◌}
 use Prim.Native.Nat.{ℕ, zero, suc, ◌-◌}
 use native.Mathlib.Omega.{arith}
-use borrow.Author.Tests.{ne_eqb}
+use borrow.Author.Tests.{ne_eqb, not-true}
 use lib.Dec.{eqb, leb, ltb}
 use lib.ListN.{length, get_or, take, replicate}
 use Rattle.slices.specs.Changed.{map_at, sum_at}
@@ -144,10 +144,6 @@ turned-stays Wake f p q d at sent = refl
 turned-stays Lock f p q d at sent = refl
 
 -- ---- the code
-
-not-true : (b : Bool) → not b ≡ true → b ≡ false
-not-true true e = absurd (false≢true e)
-not-true false e = refl
 
 -- the code is not 9F, with all bytes and after any number of them
 coded : (sent : List ℕ) → not_rdid sent ≡ true → eqb (get_or sent 0 0) 0x9F ≡ false

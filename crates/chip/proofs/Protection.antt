@@ -1,7 +1,7 @@
 -- Wish 8, proved of the calls themselves, power losses among them: with SRWD set and W low, BP and SRWD stay, and no byte of a protected sector changes.
 -- Assumes nothing.
 use mathlib.Core.Path.{◌≡◌, refl, sym, ap, ◌∙◌}
-use mathlib.Core.Bool.{Bool, true, false, cond, ◌&&◌, ◌||◌, true≢false, false≢true}
+use mathlib.Core.Bool.{Bool, true, false, ◌&&◌, ◌||◌, true≢false, false≢true}
 use mathlib.Core.List.{List, [], ◌∷◌}
 use Prim.Native.Nat.{ℕ, ◌-◌, ◌/◌, ◌<◌}
 use native.Mathlib.Omega.{arith}
@@ -21,7 +21,7 @@ use Rattle.device.specs.declared.cycle.Kind.{Kind}
 use Rattle.device.specs.declared.cycle.Kind.TheVariants.{Idle, Page, Sector, All, Settings, PageWrite, PageErase, Subsector}
 use Rattle.device.specs.Chip.{chip}
 use Rattle.device.specs.Locks.{stops, lock_of, any_stops}
-use Rattle.device.specs.Cycles.{uses_of, no_cycle, page_cycle, write_cycle, erase_cycle, all_cycle, settings_cycle, both_same, touched_in, touched, cut_in, cut, duration_of}
+use Rattle.device.specs.Cycles.{uses_of, no_cycle, page_cycle, write_cycle, erase_cycle, all_cycle, settings_cycle, both_same, touched_in, touched, cut_in, cut}
 use Rattle.device.specs.Device.{is_busy, moded, locked, remembering, running, started, ended, sound}
 use Rattle.device.specs.Device as record_is
 use Rattle.device.specs.Time.{after_cycle, finished, unlocked, powered_up, lost, waited_in, waited, time_number, mask_number, wait_call, power_up_call, loss_call}

@@ -222,7 +222,7 @@ driven-byte d array before sure b =
     (lit< tt)
 
 -- an executed instruction's answer is 0
-executed-one : {A B : Type 0} → A ⊎ B → A ⊎ (B × (◌≡◌ {A = ℕ} 0 0))
+pub executed-one : {A B : Type 0} → A ⊎ B → A ⊎ (B × (◌≡◌ {A = ℕ} 0 0))
 executed-one (inl a) = inl a
 executed-one (inr b) = inr (b, refl)
 

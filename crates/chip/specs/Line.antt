@@ -1,5 +1,5 @@
 -- Document 01, 'Response line': what the chip drives during a byte is fixed by the record, the array and the bytes before it.
-use Rattle.std.specs.Prelude.{◌≡◌, Bool, true, false, cond, not, ◌&&◌, ◌||◌, List, [], ◌∷◌, ℕ, suc, ◌-◌, eqb, leb, ltb, length, get_or, take}
+use Rattle.std.specs.Prelude.{◌≡◌, Bool, Option, Some, None, cond, not, ◌&&◌, ◌||◌, List, [], ◌∷◌, ℕ, suc, ◌-◌, eqb, leb, ltb, length, get_or, take}
 use Rattle.slices.specs.Changed.{map_at, sum_at}
 use Rattle.memory.specs.Memory.{rolled}
 use Rattle.parts.specs.declared.Figures.{Figures}
@@ -11,7 +11,6 @@ use Rattle.chip.specs.declared.table.Drive.{Drive}
 use Rattle.chip.specs.declared.table.Drive.TheVariants.{Nothing, Identification, Status, Array, Signature, Register}
 use Rattle.chip.specs.declared.table.Row.{Row}
 use Rattle.chip.specs.declared.line.Span.{Span}
-use Rattle.chip.specs.declared.line.LineByte.{LineByte}
 use Rattle.chip.specs.Table.{address_of, only_if, row_in}
 
 -- what the chip does with the line during one byte
@@ -84,10 +83,10 @@ count_of d array sent = sum_at (λ i x. driving_at d array sent i) sent
 
 -- ---- as the code finds them
 
--- whether a byte is driven, and which; 0 where none is
-abbrev pub line_byte : Driven → LineByte
-line_byte silent = record { driven = false; byte = 0 }
-line_byte (drives b) = record { driven = true; byte = b }
+-- whether a byte is driven, and which
+abbrev pub line_byte : Driven → Option ℕ
+line_byte silent = None
+line_byte (drives b) = Some b
 
 abbrev pub no_span : Span
 no_span = record { first = 0; count = 0 }

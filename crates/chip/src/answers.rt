@@ -1,161 +1,181 @@
 // The answer numbers: the first that applies.
-ghost use Rattle.std.specs.Prelude.{◌≡◌, cond, not, ◌&&◌, ◌<◌};
+ghost use Rattle.std.specs.Prelude.{◌≡◌, cond, not, ◌&&◌, length};
+ghost use Rattle.refusals.specs.Numbers.{answer_of};
 ghost use Rattle.parts.specs.Parts.{figures_of};
-ghost use Rattle.chip.specs.Answers.{host_number, writes_settings, in_protected, protected_at, protected_any, guarded_in, guarded, frozen, as_needed, chip_number, decided};
+ghost use Rattle.chip.specs.Answers.{host_number, writes_settings, in_protected, protected_at, protected_any, guarded_in, guarded, frozen, as_needed, chip_number, verdict_of};
 
 use crate::LONGEST;
 use crate::table::{Instruction, Row, Turn};
 use device::cycle::{Kind, Uses};
-use device::locks::{any_stops, freezes, lock_of, stops};
+use device::locks::{any_stops, freezes, lock_of, sector_of, stops};
 use device::{Device, is_busy, is_deep};
 use parts::Figures;
+use refusals::Refusal;
 
 // What becomes of a transaction: refused by the host side, ignored by the chip, each with its number, or executed.
-#[derive(Clone, Copy)]
+// By numbers: `verdict_of`, of which the theorems speak, gives them so.
+#[derive(Clone, Copy, Debug, PartialEq, Eq)]
 pub enum Verdict {
     Refused(u8),
     Ignored(u8),
     Executed,
 }
 
-// The host's number, or 0.
-pub fn host_number(device: Device, array: usize, n: usize, pulses: u32, response: usize) -> u8
-    ensures { result ≡ host_number device array n pulses response }
+// Whether the host side takes a transaction: the refusals in their order, 6, 2, 3, 4, 5.
+#[tactic(auto, unfolding(crate::specs::Answers::host_number))]
+pub fn host_accepts(
+    device: Device,
+    array: usize,
+    n: usize,
+    pulses: u32,
+    response: usize,
+) -> Result<(), Refusal>
+    ensures { answer_of result ≡ host_number device array n pulses response }
 {
-    let figures = Figures::of(device.part);
-    let sound = device.sound();
-    let x = slices::when(response < n, 5, 0);
-    let x = slices::when(7 < pulses, 4, x);
-    let x = slices::when(LONGEST < n, 3, x);
-    let x = slices::when(array != figures.bytes, 2, x);
-    slices::when(!sound, 6, x)
+    if !device.sound() {
+        return Err(Refusal::NotSound);
+    }
+    if array != Figures::of(device.part).bytes {
+        return Err(Refusal::ArrayLength);
+    }
+    if LONGEST < n {
+        return Err(Refusal::TooManyBytes);
+    }
+    if 7 < pulses {
+        return Err(Refusal::TooManyPulses);
+    }
+    if response < n {
+        return Err(Refusal::ResponseShort);
+    }
+    Ok(())
 }
 
 // Whether the sector of an address is among the protected ones.
+#[tactic(auto, unfolding(crate::specs::Answers::in_protected))]
 fn in_protected(figures: Figures, bp: u8, at: u32) -> bool
-    requires { 0 < figures.sector_bytes }
     ensures { result ≡ in_protected figures bp at }
 {
     let few = parts::protected(figures.sectors, bp);
-    let sector = (at as usize) / figures.sector_bytes;
-    figures.sectors - few <= sector
+    figures.sectors.saturating_sub(few) <= sector_of(figures, at)
 }
 
 // Whether the sector of an address is protected, by BP or by its lock register.
-fn protected_at(figures: Figures, device: Device, at: u32) -> bool
-    requires { 0 < figures.sector_bytes }
-    ensures { result ≡ protected_at figures device at }
+#[tactic(auto, unfolding(crate::specs::Answers::protected_at))]
+fn protected_at(device: Device, at: u32) -> bool
+    ensures { result ≡ protected_at (figures_of device.part) device at }
 {
-    let locks = device.locks;
-    let register = lock_of(figures, locks, at);
-    in_protected(figures, device.bp, at) | stops(register)
+    let figures = Figures::of(device.part);
+    in_protected(figures, device.bp, at) || stops(lock_of(figures, device.locks, at))
 }
 
 // Whether any sector is: BP above 0, or a write lock set.
+#[tactic(auto, unfolding(crate::specs::Answers::protected_any))]
 fn protected_any(device: Device) -> bool
     ensures { result ≡ protected_any device }
 {
-    let locks = device.locks;
-    (0 < device.bp) | any_stops(locks)
+    0 < device.bp || any_stops(device.locks)
 }
 
 // What guards a cycle: the protected sector that it would write in; of a bulk erase any.
-fn is_guarded(kind: Kind, figures: Figures, device: Device, at: u32) -> bool
-    requires { 0 < figures.sector_bytes }
-    ensures { result ≡ guarded_in kind figures device at }
+fn is_guarded(kind: Kind, device: Device, at: u32) -> bool
+    ensures { result ≡ guarded_in kind (figures_of device.part) device at }
 {
     match kind {
-        Kind::Idle => false,
-        Kind::Page => protected_at(figures, device, at),
-        Kind::Sector => protected_at(figures, device, at),
+        Kind::Idle | Kind::Settings => false,
         Kind::All => protected_any(device),
-        Kind::Settings => false,
-        Kind::PageWrite => protected_at(figures, device, at),
-        Kind::PageErase => protected_at(figures, device, at),
-        Kind::Subsector => protected_at(figures, device, at),
+        Kind::Page | Kind::Sector | Kind::PageWrite | Kind::PageErase | Kind::Subsector => {
+            protected_at(device, at)
+        }
     }
 }
 
-// The number of an instruction whose cycle is guarded, or whose settings or lock register are frozen: 17, 18, 19, or 0.
-fn guard_number(turn: Turn, figures: Figures, device: Device, w: bool, at: u32) -> u8
-    requires { 0 < figures.sector_bytes }
-    ensures { result ≡ cond (guarded turn figures device at) 17 (cond (writes_settings turn && device.srwd && not w) 18 (cond (frozen turn figures device at) 19 0)) }
+// Whether nothing guards an instruction: 17 where its cycle is guarded, 18 and 19 where the settings or the lock register are frozen.
+fn guard_accepts(turn: Turn, device: Device, w: bool, at: u32) -> Result<(), Refusal>
+    ensures { answer_of result ≡ cond (guarded turn (figures_of device.part) device at) 17 (cond (writes_settings turn && device.srwd && not w) 18 (cond (frozen turn (figures_of device.part) device at) 19 0)) }
 {
     match turn {
         Turn::Start(kind) => {
-            let locked = is_guarded(kind, figures, device, at);
+            if is_guarded(kind, device, at) {
+                return Err(Refusal::Protected);
+            }
             let uses = Uses::of(kind);
-            let x = slices::when(uses.settings & device.srwd & !w, 18, 0);
-            slices::when(locked, 17, x)
+            if uses.settings && device.srwd && !w {
+                return Err(Refusal::SettingsFrozen);
+            }
+            Ok(())
         }
-        Turn::Keep => 0,
-        Turn::Enable => 0,
-        Turn::Disable => 0,
-        Turn::Sleep => 0,
-        Turn::Wake => 0,
         Turn::Lock => {
-            let locks = device.locks;
-            let register = lock_of(figures, locks, at);
-            slices::when(freezes(register), 19, 0)
+            if freezes(lock_of(Figures::of(device.part), device.locks, at)) {
+                return Err(Refusal::LockFrozen);
+            }
+            Ok(())
         }
+        _ => Ok(()),
     }
 }
 
-// Whether n and the further pulses are as the row needs.
-fn as_needed(row: Row, n: usize, pulses: u32) -> bool
-    ensures { result ≡ as_needed row n pulses }
-{
-    (row.least <= n) & (n <= row.most) & (!row.no_pulses | (pulses == 0))
-}
-
-// The chip's number, or 0.
-fn chip_number(device: Device, asked: Instruction, n: usize, pulses: u32, w: bool) -> u8
-    requires { asked.figures ≡ figures_of device.part }
-    ensures { result ≡ chip_number device asked.row n pulses w asked.address }
-{
-    let mode = device.mode;
-    let busy = is_busy(mode);
-    let deep = is_deep(mode);
-    let figures = asked.figures;
-    let row = asked.row;
-    let turn = row.turn;
-    let fits = as_needed(row, n, pulses);
-    let x = guard_number(turn, figures, device, w, asked.address);
-    let x = slices::when(row.latch & !device.latch, 16, x);
-    let x = slices::when(!fits, 15, x);
-    let x = slices::when(deep & !row.deep, 13, x);
-    let x = slices::when(busy & !row.busy, 12, x);
-    let x = slices::when(!row.known, 14, x);
-    slices::when(n == 0, 11, x)
-}
-
-// A refusal first, then what the chip ignores.
-fn decide(host: u8, chip: u8) -> Verdict
-    ensures { result ≡ decided host chip }
-{
-    if host != 0 {
-        return Verdict::Refused(host);
+impl Row {
+    // Whether n and the further pulses are as needed.
+    #[tactic(auto, unfolding(crate::specs::Answers::as_needed))]
+    fn as_needed(self, n: usize, pulses: u32) -> bool
+        ensures { result ≡ as_needed self n pulses }
+    {
+        self.least <= n && n <= self.most && (!self.no_pulses || pulses == 0)
     }
-    if chip != 0 {
-        return Verdict::Ignored(chip);
-    }
-    Verdict::Executed
 }
 
-// What becomes of a transaction of n bytes with an array and a response of these lengths.
+// Whether the chip takes an instruction: what it ignores in its order, 11, 14, 12, 13, 15, 16, 17, 18, 19.
+#[tactic(auto, unfolding(crate::specs::Answers::chip_number))]
+fn chip_accepts(
+    device: Device,
+    row: Row,
+    n: usize,
+    pulses: u32,
+    w: bool,
+    at: u32,
+) -> Result<(), Refusal>
+    ensures { answer_of result ≡ chip_number device row n pulses w at }
+{
+    if n == 0 {
+        return Err(Refusal::NoBytes);
+    }
+    if !row.known {
+        return Err(Refusal::UnknownCode);
+    }
+    if is_busy(device.mode) && !row.busy {
+        return Err(Refusal::WhileBusy);
+    }
+    if is_deep(device.mode) && !row.deep {
+        return Err(Refusal::WhileDeep);
+    }
+    if !row.as_needed(n, pulses) {
+        return Err(Refusal::OddLength);
+    }
+    if row.latch && !device.latch {
+        return Err(Refusal::LatchReset);
+    }
+    guard_accepts(row.turn, device, w, at)
+}
+
+// What becomes of a transaction with an array and a response of these lengths.
+#[tactic(auto, using(crate::proofs::Verdicts::refusal_some), unfolding(crate::specs::Answers::verdict_of, crate::specs::Answers::decided))]
 pub(crate) fn judge(
     device: Device,
-    asked: Instruction,
     array: usize,
-    n: usize,
+    sent: &[u8],
     pulses: u32,
     w: bool,
     response: usize,
 ) -> Verdict
-    requires { asked.figures ≡ figures_of device.part }
-    ensures { result ≡ decided (host_number device array n pulses response) (chip_number device asked.row n pulses w asked.address) }
+    ensures { result ≡ verdict_of device array sent.now pulses w response }
 {
-    let host = host_number(device, array, n, pulses, response);
-    let chip = chip_number(device, asked, n, pulses, w);
-    decide(host, chip)
+    let n = sent.len();
+    if let Err(refusal) = host_accepts(device, array, n, pulses, response) {
+        return Verdict::Refused(refusal.into());
+    }
+    let asked = Instruction::read(device, sent);
+    if let Err(refusal) = chip_accepts(device, asked.row, n, pulses, w, asked.address) {
+        return Verdict::Ignored(refusal.into());
+    }
+    Verdict::Executed
 }

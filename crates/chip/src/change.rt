@@ -1,14 +1,15 @@
 // What an executed instruction does: the cycle that it starts, the bits missing, and the record.
-ghost use Rattle.std.specs.Prelude.{◌≡◌};
+ghost use Rattle.std.specs.Prelude.{◌≡◌, drop};
 ghost use Rattle.chip.specs.Change.{bp_in, cycle_of, missing_in, missing_of, turned};
 
-use crate::table::Turn;
+use crate::table::{Instruction, Turn};
 use device::cycle::{Cycle, Kind};
 use device::locks::relocked;
 use device::{Device, Mode};
 use parts::Figures;
 
 // BP of a settings byte.
+#[tactic(auto, unfolding(crate::specs::Change::bp_in))]
 fn bp_in(figures: Figures, b: u8) -> u8
     ensures { result ≡ bp_in figures b }
 {
@@ -19,32 +20,32 @@ fn bp_in(figures: Figures, b: u8) -> u8
     }
 }
 
+// The data of a program or a page write: from byte 4 on.
+fn data(sent: &[u8]) -> &[u8]
+    ensures { result.now ≡ drop 4 sent.now }
+{
+    let from = sent.len().min(4);
+    &sent[from..]
+}
+
 // The cycle of a kind that a transaction starts.
+#[tactic(auto, unfolding(crate::specs::Change::cycle_of))]
 fn cycle_of(kind: Kind, figures: Figures, at: u32, sent: &[u8]) -> Cycle
     ensures { result ≡ cycle_of kind figures at sent.now }
 {
     match kind {
         Kind::Idle => Cycle::none(),
-        Kind::Page => {
-            let from = slices::least(4, sent.len());
-            let slots = memory::page_latch(&sent[from..], at);
-            Cycle::page(at, slots)
-        }
-        Kind::Sector => Cycle::erase(Kind::Sector, at),
+        Kind::Page => Cycle::page(at, memory::page_latch(data(sent), at)),
         Kind::All => Cycle::all(),
         Kind::Settings => {
             let b = slices::byte_at(sent, 1);
-            let bp = bp_in(figures, b);
-            Cycle::settings(b >= 128, bp)
+            Cycle::settings(b >= 128, bp_in(figures, b))
         }
         Kind::PageWrite => {
-            let from = slices::least(4, sent.len());
-            let slots = memory::page_latch(&sent[from..], at);
-            let named = slices::least(256, sent.len() - from);
-            Cycle::write(at, slots, named as u32)
+            let named = data(sent).len().min(256);
+            Cycle::write(at, memory::page_latch(data(sent), at), named as u32)
         }
-        Kind::PageErase => Cycle::erase(Kind::PageErase, at),
-        Kind::Subsector => Cycle::erase(Kind::Subsector, at),
+        Kind::Sector | Kind::PageErase | Kind::Subsector => Cycle::erase(kind, at),
     }
 }
 
@@ -53,58 +54,40 @@ fn missing_in(kind: Kind, at: u32, sent: &[u8], array: &[u8]) -> u32
     ensures { result ≡ missing_in kind at sent.now array.now }
 {
     match kind {
-        Kind::Idle => 0,
-        Kind::Page => {
-            let from = slices::least(4, sent.len());
-            memory::missing(array, at, &sent[from..])
-        }
-        Kind::Sector => 0,
-        Kind::All => 0,
-        Kind::Settings => 0,
-        Kind::PageWrite => 0,
-        Kind::PageErase => 0,
-        Kind::Subsector => 0,
+        Kind::Page => memory::missing(array, at, data(sent)),
+        _ => 0,
     }
 }
 
 // How many bits an instruction misses; 0 where it starts no cycle.
-pub(crate) fn missing_of(turn: Turn, at: u32, sent: &[u8], array: &[u8]) -> u32
-    ensures { result ≡ missing_of turn at sent.now array.now }
+#[tactic(auto, unfolding(crate::specs::Change::missing_of))]
+pub(crate) fn missing_of(asked: Instruction, sent: &[u8], array: &[u8]) -> u32
+    ensures { result ≡ missing_of asked.row.turn asked.address sent.now array.now }
 {
-    match turn {
-        Turn::Start(kind) => missing_in(kind, at, sent, array),
-        Turn::Keep => 0,
-        Turn::Enable => 0,
-        Turn::Disable => 0,
-        Turn::Sleep => 0,
-        Turn::Wake => 0,
-        Turn::Lock => 0,
+    match asked.row.turn {
+        Turn::Start(kind) => missing_in(kind, asked.address, sent, array),
+        _ => 0,
     }
 }
 
 // The record after an executed instruction: a cycle that is started is remembered; a lock register takes byte 4, and the latch is reset.
-pub(crate) fn next_record(
-    turn: Turn,
-    figures: Figures,
-    device: Device,
-    at: u32,
-    sent: &[u8],
-) -> Device
-    ensures { result ≡ turned turn figures device at sent.now }
+#[tactic(auto, unfolding(crate::specs::Change::turned))]
+pub(crate) fn next_record(device: Device, asked: Instruction, sent: &[u8]) -> Device
+    ensures { result ≡ turned asked.row.turn asked.figures device asked.address sent.now }
 {
-    match turn {
+    match asked.row.turn {
         Turn::Keep => device,
         Turn::Enable => device.latched(true),
         Turn::Disable => device.latched(false),
         Turn::Start(kind) => {
-            let cycle = cycle_of(kind, figures, at, sent);
+            let cycle = cycle_of(kind, asked.figures, asked.address, sent);
             device.started(cycle, device.duration(kind))
         }
         Turn::Sleep => device.moded(device.latch, Mode::Deep),
         Turn::Wake => device.moded(device.latch, Mode::Standby),
         Turn::Lock => {
-            let locks = device.locks;
-            let next = relocked(figures, locks, at, slices::byte_at(sent, 4));
+            let b = slices::byte_at(sent, 4);
+            let next = relocked(asked.figures, device.locks, asked.address, b);
             device.locked(next).latched(false)
         }
     }

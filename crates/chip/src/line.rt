@@ -1,43 +1,42 @@
 // The response line: what the chip drives, from which byte on, and how many.
-ghost use Rattle.std.specs.Prelude.{◌≡◌, ◌+◌, ◌%◌, ◌<◌, length, get_or};
+ghost use Rattle.std.specs.Prelude.{◌≡◌, [], ◌∷◌, ◌+◌, ◌%◌, ◌<◌, length, get_or};
 ghost use Rattle.slices.specs.Changed.{map_at};
 ghost use Rattle.device.specs.Device.{status_byte};
-ghost use Rattle.chip.specs.Line.{identification, kth, on_line, line_byte, heard, driven, drives, span_of, from_on, Responded};
+ghost use Rattle.chip.specs.Line.{kth, on_line, line_byte, heard, driven, span_of, from_on, Responded};
 ghost use Rattle.chip.specs.Table.{only_if, instruction_in};
 
-use crate::table::{Drive, Instruction, Row, read_instruction};
+use crate::table::{Drive, Instruction, Row};
 use device::locks::lock_of;
 use device::{Device, is_busy, is_deep};
 use parts::Figures;
 
-// The three identification bytes, then 00.
-fn put_identification(figures: Figures, out: &mut [u8])
-    ensures { out.new ≡ map_at (λ k x. identification figures k) out.old }
+// The three identification bytes.
+fn identification(figures: Figures) -> [u8; 3]
+    ensures { result ≡ figures.maker ∷ figures.memory_type ∷ figures.capacity ∷ [] }
 {
-    let three = [figures.maker, figures.memory_type, figures.capacity];
-    slices::fill(out, 0);
-    slices::copy(out, &three);
+    [figures.maker, figures.memory_type, figures.capacity]
 }
 
 // What is driven, over the whole of `out`.
+// Not `kth_byte` at each place: the array goes out in straight runs, and what is driven again and again in one fill.
 fn put_driven(how: Drive, figures: Figures, device: Device, array: &[u8], at: u32, out: &mut [u8])
     ensures { out.new ≡ map_at (λ k x. on_line (kth how figures (status_byte device) device.locks array.now at k)) out.old }
 {
     match how {
         Drive::Nothing => slices::fill(out, 0xFF),
-        Drive::Identification => put_identification(figures, out),
+        Drive::Identification => {
+            slices::fill(out, 0);
+            slices::copy(out, &identification(figures));
+        }
         Drive::Status => slices::fill(out, device.status()),
         Drive::Array => memory::read_rolling(array, at as usize, out),
         Drive::Signature => slices::fill(out, figures.signature),
-        Drive::Register => {
-            let locks = device.locks;
-            slices::fill(out, lock_of(figures, locks, at))
-        }
+        Drive::Register => slices::fill(out, lock_of(figures, device.locks, at)),
     }
 }
 
 // Where something is driven, of n bytes: the first place, and how many.
-#[derive(Clone, Copy)]
+#[derive(Clone, Copy, Debug, PartialEq, Eq)]
 pub struct Span {
     pub first: usize,
     pub count: usize,
@@ -63,39 +62,33 @@ fn span_of(how: Drive, from: usize, n: usize) -> Span
 {
     match how {
         Drive::Nothing => Span { first: 0, count: 0 },
-        Drive::Identification => from_on(from, n),
-        Drive::Status => from_on(from, n),
-        Drive::Array => from_on(from, n),
-        Drive::Signature => from_on(from, n),
-        Drive::Register => from_on(from, n),
+        _ => from_on(from, n),
     }
 }
 
-// Whether an instruction is taken at all.
-fn is_heard(device: Device, row: Row) -> bool
-    ensures { result ≡ heard device row }
-{
-    let mode = device.mode;
-    let busy = is_busy(mode);
-    let deep = is_deep(mode);
-    row.known & ((!busy | row.busy) & (!deep | row.deep))
-}
+impl Row {
+    // Whether the instruction is taken at all.
+    #[tactic(auto, unfolding(crate::specs::Line::heard))]
+    fn is_heard(self, device: Device) -> bool
+        ensures { result ≡ heard device self }
+    {
+        self.known && (!is_busy(device.mode) || self.busy) && (!is_deep(device.mode) || self.deep)
+    }
 
-// The row that the chip goes by: an instruction that is not taken at all is as an unknown one.
-fn row_heard(device: Device, asked: Instruction) -> Row
-    ensures { result ≡ only_if (heard device asked.row) asked.row }
-{
-    let row = asked.row;
-    row.only_if(is_heard(device, row))
+    // The row that the chip goes by: an instruction that is not taken at all is as an unknown one.
+    fn heard(self, device: Device) -> Self
+        ensures { result ≡ only_if (heard device self) self }
+    {
+        self.only_if(self.is_heard(device))
+    }
 }
 
 // Where a transaction of n bytes drives, which no byte of the array changes.
 pub(crate) fn span_driven(device: Device, asked: Instruction, n: usize) -> Span
     ensures { result ≡ span_of (only_if (heard device asked.row) asked.row).drive (only_if (heard device asked.row) asked.row).from n }
 {
-    let row = row_heard(device, asked);
-    let how = row.drive;
-    span_of(how, row.from, n)
+    let row = asked.row.heard(device);
+    span_of(row.drive, row.from, n)
 }
 
 // The response line.
@@ -109,50 +102,27 @@ pub(crate) fn respond(
     requires { asked ≡ instruction_in device sent.now }
     ensures { Responded device array.now sent.now response.old result response.new }
 {
-    let figures = asked.figures;
-    let row = row_heard(device, asked);
-    let how = row.drive;
-    let s = span_of(how, row.from, sent.len());
-    let at = asked.address;
-    let n = slices::least(sent.len(), response.len());
-    let start = slices::least(row.from, n);
-    let zero = 0;
-    slices::fill_part(response, zero, start, 0xFF);
-    put_driven(how, figures, device, array, at, &mut response[start..n]);
-    s
-}
-
-// One of the three identification bytes, then 00.
-fn identification_byte(figures: Figures, k: usize) -> u8
-    ensures { result ≡ identification figures k }
-{
-    let three = [figures.maker, figures.memory_type, figures.capacity];
-    slices::byte_at(&three, k)
+    let row = asked.row.heard(device);
+    let n = sent.len().min(response.len());
+    let start = row.from.min(n);
+    slices::fill_part(response, 0, start, 0xFF);
+    put_driven(
+        row.drive,
+        asked.figures,
+        device,
+        array,
+        asked.address,
+        &mut response[start..n],
+    );
+    span_of(row.drive, row.from, sent.len())
 }
 
 // Byte `i` of the array, rolling over; FF where there is no array.
 fn array_byte(array: &[u8], i: usize) -> u8
     ensures { result ≡ get_or array.now (i % length array.now) 255 }
 {
-    if array.len() == 0 {
-        return 0xFF;
-    }
-    let at = i % array.len();
-    array[at]
-}
-
-// What the chip does with the line during one byte; `byte` is 0 where nothing is driven.
-#[derive(Clone, Copy)]
-pub struct LineByte {
-    pub driven: bool,
-    pub byte: u8,
-}
-
-// A byte is driven.
-fn drives(byte: u8) -> LineByte
-    ensures { result ≡ line_byte (drives byte) }
-{
-    LineByte { driven: true, byte }
+    let at = slices::rest(i, array.len());
+    array.get(at).copied().unwrap_or(0xFF)
 }
 
 // Driven byte k, counted from the first.
@@ -163,41 +133,30 @@ fn kth_byte(
     array: &[u8],
     at: u32,
     k: usize,
-) -> LineByte
+) -> Option<u8>
     requires { at + k < 18446744073709551616 }
     ensures { result ≡ line_byte (kth how figures (status_byte device) device.locks array.now at k) }
 {
     match how {
-        Drive::Nothing => LineByte {
-            driven: false,
-            byte: 0,
-        },
-        Drive::Identification => drives(identification_byte(figures, k)),
-        Drive::Status => drives(device.status()),
-        Drive::Array => drives(array_byte(array, at as usize + k)),
-        Drive::Signature => drives(figures.signature),
-        Drive::Register => {
-            let locks = device.locks;
-            drives(lock_of(figures, locks, at))
-        }
+        Drive::Nothing => None,
+        Drive::Identification => Some(slices::byte_at(&identification(figures), k)),
+        Drive::Status => Some(device.status()),
+        Drive::Array => Some(array_byte(array, at as usize + k)),
+        Drive::Signature => Some(figures.signature),
+        Drive::Register => Some(lock_of(figures, device.locks, at)),
     }
 }
 
-// What is driven during the byte that comes after the bytes before.
-pub fn driven_byte(device: Device, array: &[u8], before: &[u8]) -> LineByte
+// What is driven during the byte that comes after the bytes before; `None` where nothing is.
+#[tactic(auto, unfolding(crate::specs::Line::driven, crate::specs::Line::by_row, crate::specs::Line::heard_row))]
+pub fn driven_byte(device: Device, array: &[u8], before: &[u8]) -> Option<u8>
     ensures { result ≡ line_byte (driven device array.now before.now) }
 {
-    let asked = read_instruction(device, before);
-    let figures = asked.figures;
-    let row = row_heard(device, asked);
-    let from = row.from;
-    let how = row.drive;
-    if before.len() < from {
-        return LineByte {
-            driven: false,
-            byte: 0,
-        };
+    let asked = Instruction::read(device, before);
+    let row = asked.row.heard(device);
+    if before.len() < row.from {
+        return None;
     }
-    let k = before.len() - from;
-    kth_byte(how, figures, device, array, asked.address, k)
+    let k = before.len() - row.from;
+    kth_byte(row.drive, asked.figures, device, array, asked.address, k)
 }

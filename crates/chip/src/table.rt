@@ -1,5 +1,5 @@
 // The instruction table: a row for each code, and the address in a transaction.
-ghost use Rattle.std.specs.Prelude.{◌≡◌, ◌+◌, ◌*◌};
+ghost use Rattle.std.specs.Prelude.{◌≡◌};
 ghost use Rattle.chip.specs.Table.{order, reading, write, unknown, also_busy, also_deep, only_if, release, row_of, address_of, instruction_in};
 
 use crate::LONGEST;
@@ -8,7 +8,7 @@ use device::cycle::Kind;
 use parts::Figures;
 
 // What an instruction does: keep the record, set or reset the latch, start a cycle, go to deep power-down, leave it, write a lock register.
-#[derive(Clone, Copy)]
+#[derive(Clone, Copy, Debug, PartialEq, Eq)]
 pub enum Turn {
     Keep,
     Enable,
@@ -20,7 +20,7 @@ pub enum Turn {
 }
 
 // What an instruction drives.
-#[derive(Clone, Copy)]
+#[derive(Clone, Copy, Debug, PartialEq, Eq)]
 pub enum Drive {
     Nothing,
     Identification,
@@ -31,7 +31,8 @@ pub enum Drive {
 }
 
 // A row: what is needed (n from least to most, no further pulses, the latch), whether it is taken while busy and in deep power-down, what it does, what it drives from which byte on.
-#[derive(Clone, Copy)]
+// `known` and not an `Option` of a row: `row_of`, of which the theorems speak, has a row for every code.
+#[derive(Clone, Copy, Debug, PartialEq, Eq)]
 pub struct Row {
     pub known: bool,
     pub least: usize,
@@ -46,61 +47,7 @@ pub struct Row {
 }
 
 impl Row {
-    // n = 1, no further pulses.
-    fn order(turn: Turn) -> Self
-        ensures { result ≡ order turn }
-    {
-        Row {
-            known: true,
-            least: 1,
-            most: 1,
-            no_pulses: true,
-            latch: false,
-            busy: false,
-            deep: false,
-            turn,
-            drive: Drive::Nothing,
-            from: 1,
-        }
-    }
-
-    // n from `least` on, further pulses allowed, driven from byte `from` on.
-    fn reading(least: usize, drive: Drive, from: usize, turn: Turn) -> Self
-        ensures { result ≡ reading least drive from turn }
-    {
-        Row {
-            known: true,
-            least,
-            most: LONGEST,
-            no_pulses: false,
-            latch: false,
-            busy: false,
-            deep: false,
-            turn,
-            drive,
-            from,
-        }
-    }
-
-    // n from `least` to `most`, no further pulses, the latch.
-    fn write(least: usize, most: usize, turn: Turn) -> Self
-        ensures { result ≡ write least most turn }
-    {
-        Row {
-            known: true,
-            least,
-            most,
-            no_pulses: true,
-            latch: true,
-            busy: false,
-            deep: false,
-            turn,
-            drive: Drive::Nothing,
-            from: 1,
-        }
-    }
-
-    // Not an instruction of the part.
+    // Not an instruction of the part; what the rows below begin with.
     fn unknown() -> Self
         ensures { result ≡ unknown }
     {
@@ -118,20 +65,60 @@ impl Row {
         }
     }
 
+    // n = 1, no further pulses.
+    fn order(turn: Turn) -> Self
+        ensures { result ≡ order turn }
+    {
+        Row {
+            known: true,
+            most: 1,
+            no_pulses: true,
+            turn,
+            ..Row::unknown()
+        }
+    }
+
+    // n from `least` on, further pulses allowed, driven from byte `from` on.
+    fn reading(least: usize, drive: Drive, from: usize, turn: Turn) -> Self
+        ensures { result ≡ reading least drive from turn }
+    {
+        Row {
+            known: true,
+            least,
+            turn,
+            drive,
+            from,
+            ..Row::unknown()
+        }
+    }
+
+    // n from `least` to `most`, no further pulses, the latch.
+    fn write(least: usize, most: usize, turn: Turn) -> Self
+        ensures { result ≡ write least most turn }
+    {
+        Row {
+            known: true,
+            least,
+            most,
+            no_pulses: true,
+            latch: true,
+            turn,
+            ..Row::unknown()
+        }
+    }
+
     // The row, taken while busy too.
-    fn also_busy(mut self) -> Self
+    fn also_busy(self) -> Self
         ensures { result ≡ also_busy self }
     {
-        self.busy = true;
-        self
+        Row { busy: true, ..self }
     }
 
     // The row, taken in deep power-down too.
-    fn also_deep(mut self) -> Self
+    fn also_deep(self) -> Self
         ensures { result ≡ also_deep self }
     {
-        self.deep = true;
-        self
+        Row { deep: true, ..self }
     }
 
     // The row where a test holds, else as for an unknown code.
@@ -154,6 +141,7 @@ fn release(figures: Figures) -> Row
 }
 
 // The row of a code.
+#[tactic(auto, unfolding(crate::specs::Table::row_of))]
 fn decode(figures: Figures, code: u8) -> Row
     ensures { result ≡ row_of figures code }
 {
@@ -179,42 +167,36 @@ fn decode(figures: Figures, code: u8) -> Row
     }
 }
 
-// 24 bits, high byte first.
-fn joined(high: u8, middle: u8, low: u8) -> usize
-    ensures { result ≡ high * 65536 + middle * 256 + low }
-{
-    (high as usize) * 65536 + (middle as usize) * 256 + (low as usize)
-}
-
-// The address in a transaction, within the part.
+// The address in a transaction, within the part: 24 bits, high byte first.
+#[tactic(auto, unfolding(crate::specs::Table::address_of))]
 pub(crate) fn address(figures: Figures, sent: &[u8]) -> u32
     ensures { result ≡ address_of figures sent.now }
 {
     let high = slices::byte_at(sent, 1);
     let middle = slices::byte_at(sent, 2);
     let low = slices::byte_at(sent, 3);
-    slices::rest(joined(high, middle, low), figures.bytes) as u32
+    let at = u32::from_be_bytes([0, high, middle, low]);
+    slices::rest(at as usize, figures.bytes) as u32
 }
 
 // The instruction of a transaction: the part's figures, the row of its first byte, its address.
-#[derive(Clone, Copy)]
+#[derive(Clone, Copy, Debug, PartialEq, Eq)]
 pub struct Instruction {
     pub figures: Figures,
     pub row: Row,
     pub address: u32,
 }
 
-// The instruction that is sent.
-pub(crate) fn read_instruction(device: Device, sent: &[u8]) -> Instruction
-    ensures { result ≡ instruction_in device sent.now }
-{
-    let figures = Figures::of(device.part);
-    let code = slices::byte_at(sent, 0);
-    let row = decode(figures, code);
-    let at = address(figures, sent);
-    Instruction {
-        figures,
-        row,
-        address: at,
+impl Instruction {
+    // The instruction that is sent.
+    pub(crate) fn read(device: Device, sent: &[u8]) -> Self
+        ensures { result ≡ instruction_in device sent.now }
+    {
+        let figures = Figures::of(device.part);
+        Instruction {
+            figures,
+            row: decode(figures, slices::byte_at(sent, 0)),
+            address: address(figures, sent),
+        }
     }
 }

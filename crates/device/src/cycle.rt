@@ -1,26 +1,58 @@
 // Cycles: what is remembered of one, what it does to the array, whole or cut, and how many ticks it takes.
 ghost use Rattle.std.specs.Prelude.{◌≡◌};
 ghost use Rattle.slices.specs.Changed.{map_at};
-ghost use Rattle.device.specs.Cycles.{uses_row, uses_of, no_cycle, page_cycle, write_cycle, erase_cycle, all_cycle, settings_cycle, both_same, slots_sound, named_sound, cycle_sound, touched, cut, duration_of};
+ghost use Rattle.device.specs.Packing.{kind_number, KindRead};
+ghost use Rattle.device.specs.Cycles.{uses_of, no_cycle, page_cycle, write_cycle, erase_cycle, all_cycle, settings_cycle, slots_sound, named_sound, cycle_sound, touched, cut, duration_of};
 
 use crate::Device;
 use parts::Figures;
+use refusals::Refusal;
 
-// What a cycle does: nothing where there is none; program a page, erase a sector, erase all, write the settings; on an M25PE part also write a page, erase a page, erase a subsector.
-#[derive(Clone, Copy)]
+// What a cycle does, with the kind byte that stands for it in a packing: nothing where there is none; program a page, erase a sector, erase all, write the settings; on an M25PE part also write a page, erase a page, erase a subsector.
+#[derive(Clone, Copy, Debug, PartialEq, Eq)]
 pub enum Kind {
-    Idle,
-    Page,
-    Sector,
-    All,
-    Settings,
-    PageWrite,
-    PageErase,
-    Subsector,
+    Idle = 0,
+    Page = 1,
+    Sector = 2,
+    All = 3,
+    Settings = 4,
+    PageWrite = 5,
+    PageErase = 6,
+    Subsector = 7,
+}
+
+// The kind byte of a packing.
+impl From<Kind> for u8 {
+    ghost from_gives = { λ kind number. number ≡ kind_number kind };
+
+    fn from(kind: Kind) -> u8 {
+        kind as u8
+    }
+}
+
+// The kind of a kind byte; a record with another byte there is not sound.
+impl TryFrom<u8> for Kind {
+    type Error = Refusal;
+
+    ghost try_from_gives = { KindRead };
+
+    fn try_from(number: u8) -> Result<Kind, Refusal> {
+        match number {
+            0 => Ok(Kind::Idle),
+            1 => Ok(Kind::Page),
+            2 => Ok(Kind::Sector),
+            3 => Ok(Kind::All),
+            4 => Ok(Kind::Settings),
+            5 => Ok(Kind::PageWrite),
+            6 => Ok(Kind::PageErase),
+            7 => Ok(Kind::Subsector),
+            _ => Err(Refusal::NotSound),
+        }
+    }
 }
 
 // Whether a kind is a cycle, what of a remembered cycle it uses, and whether it is of M25PE parts alone.
-#[derive(Clone, Copy)]
+#[derive(Clone, Copy, Debug, PartialEq, Eq)]
 pub struct Uses {
     pub cycle: bool,
     pub address: bool,
@@ -30,8 +62,8 @@ pub struct Uses {
     pub pe: bool,
 }
 
-// A remembered cycle: its kind, its address, the 256 slots of a program or a page write, the settings that are being written, how many bytes a page write named; zero but for what its kind uses.
-#[derive(Clone, Copy)]
+// A remembered cycle: its kind, its address, the 256 slots of a program or a page write, the settings that are being written, how many bytes a page write named; zero but for what its kind uses. No enum with fields: packing and definitions hold each field, used or not.
+#[derive(Clone, Copy, Debug, PartialEq, Eq)]
 pub struct Cycle {
     pub kind: Kind,
     pub address: u32,
@@ -41,41 +73,54 @@ pub struct Cycle {
     pub named: u32,
 }
 
-// Whether two bools are equal.
-pub(crate) fn same(a: bool, b: bool) -> bool
-    ensures { result ≡ both_same a b }
-{
-    if a { b } else { !b }
-}
-
 impl Uses {
-    // A row of `of`.
-    fn row(cycle: bool, address: bool, slots: bool, settings: bool, named: bool, pe: bool) -> Self
-        ensures { result ≡ uses_row cycle address slots settings named pe }
-    {
-        Uses {
-            cycle,
-            address,
-            slots,
-            settings,
-            named,
-            pe,
-        }
-    }
+    // No cycle, and nothing used.
+    const NOTHING: Uses = Uses {
+        cycle: false,
+        address: false,
+        slots: false,
+        settings: false,
+        named: false,
+        pe: false,
+    };
+
+    // A cycle at an address: an erase of the area there.
+    const AREA: Uses = Uses {
+        cycle: true,
+        address: true,
+        ..Uses::NOTHING
+    };
 
     // What a kind uses.
     pub fn of(kind: Kind) -> Self
         ensures { result ≡ uses_of kind }
     {
         match kind {
-            Kind::Idle => Uses::row(false, false, false, false, false, false),
-            Kind::Page => Uses::row(true, true, true, false, false, false),
-            Kind::Sector => Uses::row(true, true, false, false, false, false),
-            Kind::All => Uses::row(true, false, false, false, false, false),
-            Kind::Settings => Uses::row(true, false, false, true, false, false),
-            Kind::PageWrite => Uses::row(true, true, true, false, true, true),
-            Kind::PageErase => Uses::row(true, true, false, false, false, true),
-            Kind::Subsector => Uses::row(true, true, false, false, false, true),
+            Kind::Idle => Uses::NOTHING,
+            Kind::Page => Uses {
+                slots: true,
+                ..Uses::AREA
+            },
+            Kind::Sector => Uses::AREA,
+            Kind::All => Uses {
+                cycle: true,
+                ..Uses::NOTHING
+            },
+            Kind::Settings => Uses {
+                cycle: true,
+                settings: true,
+                ..Uses::NOTHING
+            },
+            Kind::PageWrite => Uses {
+                slots: true,
+                named: true,
+                pe: true,
+                ..Uses::AREA
+            },
+            Kind::PageErase | Kind::Subsector => Uses {
+                pe: true,
+                ..Uses::AREA
+            },
         }
     }
 }
@@ -84,8 +129,7 @@ impl Uses {
 fn slots_sound(slots: [u8; 256], used: bool) -> bool
     ensures { result ≡ slots_sound slots used }
 {
-    let blank = [0; 256];
-    used | slices::same(&slots, &blank)
+    used | (slots == [0; 256])
 }
 
 // Whether a number of bytes named is 1 to 256 where it is used, else 0.
@@ -93,7 +137,7 @@ fn named_sound(named: u32, used: bool) -> bool
     ensures { result ≡ named_sound named used }
 {
     if used {
-        (1 <= named) & (named <= 256)
+        (1..=256).contains(&named)
     } else {
         named == 0
     }
@@ -122,9 +166,7 @@ impl Cycle {
             kind: Kind::Page,
             address,
             slots,
-            bp: 0,
-            srwd: false,
-            named: 0,
+            ..Cycle::none()
         }
     }
 
@@ -136,9 +178,8 @@ impl Cycle {
             kind: Kind::PageWrite,
             address,
             slots,
-            bp: 0,
-            srwd: false,
             named,
+            ..Cycle::none()
         }
     }
 
@@ -149,10 +190,7 @@ impl Cycle {
         Cycle {
             kind,
             address,
-            slots: [0; 256],
-            bp: 0,
-            srwd: false,
-            named: 0,
+            ..Cycle::none()
         }
     }
 
@@ -162,11 +200,7 @@ impl Cycle {
     {
         Cycle {
             kind: Kind::All,
-            address: 0,
-            slots: [0; 256],
-            bp: 0,
-            srwd: false,
-            named: 0,
+            ..Cycle::none()
         }
     }
 
@@ -176,11 +210,9 @@ impl Cycle {
     {
         Cycle {
             kind: Kind::Settings,
-            address: 0,
-            slots: [0; 256],
             bp,
             srwd,
-            named: 0,
+            ..Cycle::none()
         }
     }
 
@@ -188,64 +220,46 @@ impl Cycle {
     pub(crate) fn sound(self, figures: Figures, busy: bool) -> bool
         ensures { result ≡ cycle_sound self figures busy }
     {
-        let kind = self.kind;
-        let slots = self.slots;
-        let uses = Uses::of(kind);
-        let remembered = same(busy, uses.cycle);
-        let whole = slots_sound(slots, uses.slots);
-        let counted = named_sound(self.named, uses.named);
-        let address = self.address as usize;
-        remembered
-            & (address < figures.bytes)
-            & (self.bp <= figures.highest_bp)
-            & (uses.address | (self.address == 0))
-            & whole
-            & (uses.settings | ((self.bp == 0) & !self.srwd))
-            & counted
-            & (!uses.pe | figures.pe)
+        let uses = Uses::of(self.kind);
+        busy == uses.cycle
+            && (self.address as usize) < figures.bytes
+            && self.bp <= figures.highest_bp
+            && (uses.address || self.address == 0)
+            && slots_sound(self.slots, uses.slots)
+            && (uses.settings || (self.bp == 0 && !self.srwd))
+            && named_sound(self.named, uses.named)
+            && (!uses.pe || figures.pe)
     }
 
     // Carries the cycle out.
     pub(crate) fn complete(self, figures: Figures, array: &mut [u8])
         ensures { array.new ≡ map_at (touched figures self) array.old }
     {
-        let size = figures.sector_bytes;
-        let small = figures.subsector_bytes;
         let at = self.address as usize;
-        let named = self.named as usize;
-        let kind = self.kind;
-        let slots = self.slots;
-        match kind {
-            Kind::Idle => {}
-            Kind::Page => memory::program_page(array, at, slots),
-            Kind::Sector => memory::erase_sector(array, size, at),
+        match self.kind {
+            Kind::Idle | Kind::Settings => {}
+            Kind::Page => memory::program_page(array, at, self.slots),
+            Kind::Sector => memory::erase_sector(array, figures.sector_bytes, at),
             Kind::All => memory::erase_all(array),
-            Kind::Settings => {}
-            Kind::PageWrite => memory::write_page(array, at, named, slots),
+            Kind::PageWrite => memory::write_page(array, at, self.named as usize, self.slots),
             Kind::PageErase => memory::erase_sector(array, 256, at),
-            Kind::Subsector => memory::erase_sector(array, small, at),
+            Kind::Subsector => memory::erase_sector(array, figures.subsector_bytes, at),
         }
     }
 
-    // Cuts the cycle short.
+    // Cuts the cycle short. Not one with `complete`: each kind calls another function of `memory`, with another promise.
     pub(crate) fn cut_short(self, figures: Figures, array: &mut [u8], mask: &[u8])
         ensures { array.new ≡ map_at (cut figures self mask.now) array.old }
     {
-        let size = figures.sector_bytes;
-        let small = figures.subsector_bytes;
         let at = self.address as usize;
-        let named = self.named as usize;
-        let kind = self.kind;
-        let slots = self.slots;
-        match kind {
-            Kind::Idle => {}
-            Kind::Page => memory::cut_page(array, at, slots, mask),
-            Kind::Sector => memory::cut_sector(array, size, at, mask),
+        match self.kind {
+            Kind::Idle | Kind::Settings => {}
+            Kind::Page => memory::cut_page(array, at, self.slots, mask),
+            Kind::Sector => memory::cut_sector(array, figures.sector_bytes, at, mask),
             Kind::All => memory::cut_all(array, mask),
-            Kind::Settings => {}
-            Kind::PageWrite => memory::cut_write(array, at, named, mask),
+            Kind::PageWrite => memory::cut_write(array, at, self.named as usize, mask),
             Kind::PageErase => memory::cut_sector(array, 256, at, mask),
-            Kind::Subsector => memory::cut_sector(array, small, at, mask),
+            Kind::Subsector => memory::cut_sector(array, figures.subsector_bytes, at, mask),
         }
     }
 }
@@ -257,13 +271,10 @@ impl Device {
     {
         match kind {
             Kind::Idle => 0,
-            Kind::Page => self.program,
-            Kind::Sector => self.sector_erase,
+            Kind::Page | Kind::PageWrite | Kind::PageErase => self.program,
+            Kind::Sector | Kind::Subsector => self.sector_erase,
             Kind::All => self.bulk_erase,
             Kind::Settings => self.write_status,
-            Kind::PageWrite => self.program,
-            Kind::PageErase => self.program,
-            Kind::Subsector => self.sector_erase,
         }
     }
 }

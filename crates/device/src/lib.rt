@@ -2,6 +2,7 @@
 #![tactic(auto)]
 
 ghost use Rattle.std.specs.Prelude.{◌≡◌};
+ghost use Rattle.refusals.specs.Numbers.{number_of};
 ghost use Rattle.device.specs.Device.{latch_at, moded, latched, settled, remembering, locked, running, started, ended, zero_record, delivered, ranged_of, mode_sound, sound, is_busy, is_deep, status_byte};
 
 // The cycle that is remembered, what it does, and how long it takes.
@@ -16,19 +17,21 @@ pub mod packing;
 // Waiting, power-up and power loss.
 pub mod time;
 
-use cycle::{Cycle, same};
+use cycle::Cycle;
 use locks::{REGISTERS, locks_sound};
+use parts::Figures;
+use refusals::Refusal;
 
 // What the chip is doing: nothing, a cycle with so many ticks left, or deep power-down.
-#[derive(Clone, Copy)]
+#[derive(Clone, Copy, Debug, PartialEq, Eq)]
 pub enum Mode {
     Standby,
     Busy(u32),
     Deep,
 }
 
-// A chip between two transactions. The four after the mode are how many ticks each kind of cycle takes; then the cycle that runs, and the lock register of each sector of an M25PE part, zero on the others.
-#[derive(Clone, Copy)]
+// A chip between two transactions. The four after the mode are how many ticks each kind of cycle takes; then the cycle that runs, and the lock register of each sector of an M25PE part, zero on the others. The part is a number, and the four no struct of their own: the definitions have these fields.
+#[derive(Clone, Copy, Debug, PartialEq, Eq)]
 pub struct Device {
     pub part: u8,
     pub bp: u8,
@@ -43,11 +46,23 @@ pub struct Device {
     pub locks: [u8; REGISTERS],
 }
 
-// The answer of a call that checks its record, and the record handed back.
-#[derive(Clone, Copy)]
+// The answer of a call that checks its record, and the record handed back. The answer is a number: the definitions of the calls have it so.
+#[derive(Clone, Copy, Debug, PartialEq, Eq)]
 pub struct Checked {
     pub answer: u8,
     pub device: Device,
+}
+
+impl Checked {
+    // A refused call, with the record that it hands back.
+    pub(crate) fn refused(refusal: Refusal, device: Device) -> Self
+        ensures { result ≡ record { answer = number_of refusal; device = device } }
+    {
+        Checked {
+            answer: refusal.into(),
+            device,
+        }
+    }
 }
 
 // The latch of a cycle with `t` ticks left.
@@ -61,7 +76,7 @@ fn latch_at(t: u32) -> bool
 pub fn ranged(x: u32) -> bool
     ensures { result ≡ ranged_of x }
 {
-    (1 <= x) & (x <= 1_000_000)
+    (1..=1_000_000).contains(&x)
 }
 
 // Whether a mode is sound with this latch, on a part that sleeps or not.
@@ -70,7 +85,7 @@ fn mode_sound(mode: Mode, latch: bool, sleeps: bool) -> bool
 {
     match mode {
         Mode::Standby => true,
-        Mode::Busy(left) => ranged(left) & same(latch, latch_at(left)),
+        Mode::Busy(left) => ranged(left) && latch == latch_at(left),
         Mode::Deep => sleeps,
     }
 }
@@ -79,22 +94,14 @@ fn mode_sound(mode: Mode, latch: bool, sleeps: bool) -> bool
 pub fn is_busy(mode: Mode) -> bool
     ensures { result ≡ is_busy mode }
 {
-    match mode {
-        Mode::Standby => false,
-        Mode::Busy(_) => true,
-        Mode::Deep => false,
-    }
+    matches!(mode, Mode::Busy(_))
 }
 
 // Whether it is deep power-down.
 pub fn is_deep(mode: Mode) -> bool
     ensures { result ≡ is_deep mode }
 {
-    match mode {
-        Mode::Standby => false,
-        Mode::Busy(_) => false,
-        Mode::Deep => true,
-    }
+    matches!(mode, Mode::Deep)
 }
 
 impl Device {
@@ -102,54 +109,39 @@ impl Device {
     pub fn moded(self, latch: bool, mode: Mode) -> Self
         ensures { result ≡ moded self latch mode }
     {
-        let cycle = self.cycle;
-        let locks = self.locks;
         Device {
-            part: self.part,
-            bp: self.bp,
-            srwd: self.srwd,
             latch,
             mode,
-            program: self.program,
-            sector_erase: self.sector_erase,
-            bulk_erase: self.bulk_erase,
-            write_status: self.write_status,
-            cycle,
-            locks,
+            ..self
         }
     }
 
     // Another latch.
-    pub fn latched(mut self, on: bool) -> Self
+    pub fn latched(self, on: bool) -> Self
         ensures { result ≡ latched self on }
     {
-        self.latch = on;
-        self
+        Device { latch: on, ..self }
     }
 
     // Other settings.
-    pub fn settled(mut self, srwd: bool, bp: u8) -> Self
+    pub fn settled(self, srwd: bool, bp: u8) -> Self
         ensures { result ≡ settled self srwd bp }
     {
-        self.srwd = srwd;
-        self.bp = bp;
-        self
+        Device { bp, srwd, ..self }
     }
 
     // Another remembered cycle.
-    fn remembering(mut self, cycle: Cycle) -> Self
+    fn remembering(self, cycle: Cycle) -> Self
         ensures { result ≡ remembering self cycle }
     {
-        self.cycle = cycle;
-        self
+        Device { cycle, ..self }
     }
 
     // Other lock registers.
-    pub fn locked(mut self, locks: [u8; REGISTERS]) -> Self
+    pub fn locked(self, locks: [u8; REGISTERS]) -> Self
         ensures { result ≡ locked self locks }
     {
-        self.locks = locks;
-        self
+        Device { locks, ..self }
     }
 
     // Busy with `t` ticks left.
@@ -190,7 +182,6 @@ impl Device {
     ) -> Self
         ensures { result ≡ delivered part program sector_erase bulk_erase write_status }
     {
-        let cycle = Cycle::none();
         Device {
             part,
             bp: 0,
@@ -201,7 +192,7 @@ impl Device {
             sector_erase,
             bulk_erase,
             write_status,
-            cycle,
+            cycle: Cycle::none(),
             locks: [0; REGISTERS],
         }
     }
@@ -210,37 +201,25 @@ impl Device {
     pub fn sound(self) -> bool
         ensures { result ≡ sound self }
     {
-        let known = parts::known(self.part);
-        let figures = parts::Figures::of(self.part);
-        let program = ranged(self.program);
-        let sector_erase = ranged(self.sector_erase);
-        let bulk_erase = ranged(self.bulk_erase);
-        let write_status = ranged(self.write_status);
-        let mode = self.mode;
-        let cycle = self.cycle;
-        let fits = mode_sound(mode, self.latch, figures.sleeps);
-        let whole = cycle.sound(figures, is_busy(mode));
-        let locks = self.locks;
-        let closed = locks_sound(figures, locks);
-        known
-            & (self.bp <= figures.highest_bp)
-            & program
-            & sector_erase
-            & bulk_erase
-            & write_status
-            & fits
-            & whole
-            & closed
+        let figures = Figures::of(self.part);
+        parts::known(self.part)
+            && self.bp <= figures.highest_bp
+            && ranged(self.program)
+            && ranged(self.sector_erase)
+            && ranged(self.bulk_erase)
+            && ranged(self.write_status)
+            && mode_sound(self.mode, self.latch, figures.sleeps)
+            && self.cycle.sound(figures, is_busy(self.mode))
+            && locks_sound(figures, self.locks)
     }
 
     // The status byte: bit 7 SRWD, bits 4 to 2 BP, bit 1 the latch, bit 0 set while busy.
     pub fn status(self) -> u8
         ensures { result ≡ status_byte self }
     {
-        let srwd = slices::when(self.srwd, 128, 0);
-        let latch = slices::when(self.latch, 2, 0);
-        let mode = self.mode;
-        let busy = slices::when(is_busy(mode), 1, 0);
-        srwd + 4 * (self.bp % 8) + latch + busy
+        128 * u8::from(self.srwd)
+            + 4 * (self.bp % 8)
+            + 2 * u8::from(self.latch)
+            + u8::from(is_busy(self.mode))
     }
 }

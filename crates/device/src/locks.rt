@@ -25,8 +25,7 @@ pub fn freezes(register: u8) -> bool
 pub fn sector_of(figures: Figures, at: u32) -> usize
     ensures { result ≡ at / figures.sector_bytes }
 {
-    let size = figures.sector_bytes;
-    if size == 0 { 0 } else { (at as usize) / size }
+    (at as usize).checked_div(figures.sector_bytes).unwrap_or(0)
 }
 
 // The register of the sector of an address; 0 where there is none.
@@ -40,43 +39,30 @@ pub fn lock_of(figures: Figures, locks: [u8; REGISTERS], at: u32) -> u8
 pub fn any_stops(locks: [u8; REGISTERS]) -> bool
     ensures { result ≡ any_stops locks }
 {
-    let mut any = false;
-    let mut i = 0;
-    while i < REGISTERS {
-        any = any | stops(locks[i]);
-        i += 1;
-    }
-    any
+    locks.iter().any(|lock| stops(*lock))
 }
 
 // The registers after a byte was written to the one of the sector of an address.
-pub fn relocked(figures: Figures, locks: [u8; REGISTERS], at: u32, b: u8) -> [u8; REGISTERS]
+pub fn relocked(figures: Figures, mut locks: [u8; REGISTERS], at: u32, b: u8) -> [u8; REGISTERS]
     ensures { result ≡ relocked figures locks at b }
 {
-    let mut next = locks;
     let sector = sector_of(figures, at);
     if sector < REGISTERS {
-        next[sector] = b % 4;
+        locks[sector] = b % 4;
     }
-    next
+    locks
 }
 
 // Whether each register is at most `most`.
 fn each_at_most(most: u8, locks: [u8; REGISTERS]) -> bool
     ensures { result ≡ each_at_most most locks }
 {
-    let mut all = true;
-    let mut i = 0;
-    while i < REGISTERS {
-        all = all & (locks[i] <= most);
-        i += 1;
-    }
-    all
+    locks.iter().all(|lock| *lock <= most)
 }
 
 // Whether each register is 0 to 3 on an M25PE part, zero on the others.
 pub(crate) fn locks_sound(figures: Figures, locks: [u8; REGISTERS]) -> bool
     ensures { result ≡ locks_sound figures locks }
 {
-    each_at_most(slices::when(figures.pe, 3, 0), locks)
+    each_at_most(if figures.pe { 3 } else { 0 }, locks)
 }

@@ -1,9 +1,9 @@
 -- One job as a call: what its steps give, and that it is the job of the theorems.
 -- Assumes nothing.
-use mathlib.Core.Path.{◌≡◌, refl, ◌∙◌}
+use mathlib.Core.Path.{◌≡◌, ◌∙◌}
 use mathlib.Core.Bool.{Bool}
 use mathlib.Core.List.{List}
-use Prim.Native.Nat.{ℕ, zero, suc, ◌≤◌}
+use Prim.Native.Nat.{ℕ, ◌≤◌}
 use lib.ListN.{length}
 use Rattle.device.specs.declared.Device.{Device}
 use Rattle.device.specs.declared.Checked.{Checked}
@@ -11,19 +11,13 @@ use Rattle.device.specs.Chip.{chip}
 use Rattle.device.specs.Time.{Handed, wait_call}
 use Rattle.chip.specs.declared.Answer.{Answer}
 use Rattle.chip.specs.Answers.{host_number}
-use Rattle.chip.specs.Outcome.{Outcome, bare, outcome_of, Transacted}
+use Rattle.chip.specs.Outcome.{Outcome, Transacted}
 use Rattle.chip.specs.Events.{Chip, after, reply}
 use Rattle.chip.proofs.Events.{no-refusal, sent-room}
-use Rattle.jobs.specs.Jobs.{Job, longest_cycle, enable, carry, rest, after_job, AtRest, WellFormed}
+use Rattle.jobs.specs.Jobs.{Job, longest_cycle, enable, carry, after_job, AtRest, WellFormed}
 use Rattle.jobs.specs.Call.{job_of, jobbed, Jobbed, alone}
 
 module _ (d : Device) (xs sent : List ℕ) (p : ℕ) (w : Bool) (r : List ℕ) where
-  -- a host-side number
-  pub job-refused : (host : ℕ) → host ≡ host_number d (length xs) (length sent) p (length r) → (host ≡ 0 → ⊥) → Jobbed d xs sent p w r (bare host) d xs r
-  unfolding jobbed outcome_of
-  job-refused zero e h = absurd (h refl)
-  job-refused (suc k) e h = rw (← e) (record { answer = refl; device = refl; memory = refl; line = refl })
-
   -- none: the four calls, one after the other
   pub job-passes : {on : Device} {ys : List ℕ} {a : Answer} {going : Device} {zs r' : List ℕ} {rest : Checked} {us : List ℕ} {next : Device} {end : List ℕ} (t : ℕ)
       → host_number d (length xs) (length sent) p (length r) ≡ 0 → t ≡ longest_cycle d

@@ -18,7 +18,7 @@ use Rattle.chip.specs.Events.{Chip}
 use Rattle.jobs.specs.Jobs.{Job, Entry, run_jobs, history, AtRest, AllFormed, ExecutedOr15Or17, AllAnswer}
 use Rattle.jobs.specs.Formula.{ends_as}
 use Rattle.jobs.specs.Swap.{MaySwap}
-use Rattle.jobs.proofs.Steps.{resting, chip, rest-sound, number, effect, number-allowed, enabled-number, answered-is, rested-number, disabled-number, after_is}
+use Rattle.jobs.proofs.Steps.{resting, chip, rest-sound, effect, number-allowed, enabled-number, answered-is, rested-number, disabled-number, after_is}
 use Rattle.jobs.proofs.Bytes.{through, rans, effects-commute, ends}
 
 -- ---- a list of jobs is one change of each byte

@@ -6,8 +6,9 @@ ghost use Rattle.memory.specs.Missing.{most_missing};
 ghost use Rattle.slices.specs.Chosen.{on_zero};
 ghost use Rattle.slices.specs.Changed.{map_at, stored};
 ghost use Rattle.device.specs.Packing.{pack_of};
-ghost use Rattle.device.specs.Time.{wait_call, power_up_call, loss_call};
-ghost use Rattle.m25p.specs.Calls.{packed_answer, transacted_c, Called, high, timed_c, CalledOn, DeliveredC};
+ghost use Rattle.device.specs.Chip.{Chip};
+ghost use Rattle.device.specs.Time.{Timed, wait_call, power_up_call, loss_call};
+ghost use Rattle.m25p.specs.Calls.{packed_answer, transacted_c, Called, high, Does, Keeps, timed_c, CalledOn, DeliveredC};
 ghost use Rattle.m25p.specs.Pins.{RanC};
 ghost use Rattle.m25p.specs.Batch.{BatchedC};
 ghost use Rattle.m25p.specs.Report.{ReportedC};
@@ -17,9 +18,9 @@ ghost use Rattle.chip.specs.Outcome;
 // Rows of packed records.
 mod rows;
 
-use chip::Answer;
-use device::Device;
+use chip::{Answer, Done};
 use device::packing::{LENGTH, unpack};
+use device::{Checked, Device};
 use image::Reply;
 
 // The four numbers of an answer in 64 bits.
@@ -27,8 +28,10 @@ fn packed_answer(answer: Answer) -> u64
     requires { answer.missing ≤ most_missing }
     ensures { result ≡ packed_answer answer }
 {
-    let seen = (answer.number as u64) + 256 * (answer.first as u64) + 65536 * (answer.count as u64);
-    seen + 281_474_976_710_656 * (answer.missing as u64)
+    let seen = u64::from(answer.number)
+        + 256 * u64::from(answer.first)
+        + 65536 * u64::from(answer.count);
+    seen + 281_474_976_710_656 * u64::from(answer.missing)
 }
 
 // An answer with nothing driven and no bits missing.
@@ -47,6 +50,25 @@ fn store(number: u8, next: Device, packed: &mut [u8])
     }
 }
 
+// A call that answers a number alone: its record stored, its answer packed.
+fn checked(done: Checked, packed: &mut [u8]) -> u64
+    ensures bytes { packed.new ≡ on_zero done.answer (map_at (stored 0 (pack_of done.device)) packed.old) packed.old }
+    ensures number { result ≡ packed_answer (Outcome.bare done.answer) }
+{
+    store(done.answer, done.device, packed);
+    bare(done.answer)
+}
+
+// A call that answers as a transaction does: its record stored, its answer packed.
+fn carried(done: Done, packed: &mut [u8]) -> u64
+    requires { done.answer.missing ≤ most_missing }
+    ensures bytes { packed.new ≡ on_zero done.answer.number (map_at (stored 0 (pack_of done.device)) packed.old) packed.old }
+    ensures number { result ≡ packed_answer done.answer }
+{
+    store(done.answer.number, done.device, packed);
+    packed_answer(done.answer)
+}
+
 // Delivers a part: the packed record is written and the array becomes FF.
 pub fn m25p_deliver(
     packed: &mut [u8],
@@ -63,8 +85,7 @@ pub fn m25p_deliver(
         return bare(8);
     }
     let done = chip::deliver(part, array, program, sector_erase, bulk_erase, write_status);
-    store(done.answer, done.device, packed);
-    bare(done.answer)
+    checked(done, packed)
 }
 
 // One transaction: W is low for 0, else high.
@@ -83,48 +104,49 @@ pub fn m25p_transact(
         return bare(came.answer);
     }
     let done = chip::transact(came.device, array, sent, pulses, w != 0, response);
-    let answer = done.answer;
-    store(answer.number, done.device, packed);
-    packed_answer(answer)
+    carried(done, packed)
+}
+
+// A call on the record and the array: refused where the packed bytes are of no sound record, and the next record is stored where it answers 0.
+fn timed<F: FnOnce(Device, &mut [u8]) -> Checked>(
+    packed: &mut [u8],
+    array: &mut [u8],
+    call: F,
+) -> u64
+    requires { F.IsAlwaysCallable call }
+    ensures { (meant : Chip → Timed) → Does F.FnOnce call meant → Keeps meant → CalledOn (timed_c meant packed.old array.old) packed.old result packed.new array.new }
+{
+    let came = unpack(packed);
+    if came.answer != 0 {
+        return bare(came.answer);
+    }
+    let done = call(came.device, array);
+    checked(done, packed)
 }
 
 // Waits `ticks`: on the last tick of a cycle its effect comes.
 pub fn m25p_wait(packed: &mut [u8], array: &mut [u8], ticks: u32) -> u64
     ensures { CalledOn (timed_c (λ c. wait_call c ticks) packed.old array.old) packed.old result packed.new array.new }
 {
-    let came = unpack(packed);
-    if came.answer != 0 {
-        return bare(came.answer);
-    }
-    let done = came.device.wait(array, ticks);
-    store(done.answer, done.device, packed);
-    bare(done.answer)
+    timed(packed, array, |device, array| device.wait(array, ticks))
 }
 
 // Powers up: a cycle is completed.
 pub fn m25p_power_up(packed: &mut [u8], array: &mut [u8]) -> u64
     ensures { CalledOn (timed_c power_up_call packed.old array.old) packed.old result packed.new array.new }
 {
-    let came = unpack(packed);
-    if came.answer != 0 {
-        return bare(came.answer);
-    }
-    let done = came.device.power_up(array);
-    store(done.answer, done.device, packed);
-    bare(done.answer)
+    timed(packed, array, |device, array| device.power_up(array))
 }
 
 // Power is lost and comes back: a cycle is cut as the mask says; a settings write is complete on yes, which is any number but 0.
 pub fn m25p_loss(packed: &mut [u8], array: &mut [u8], mask: &[u8], yes: u32) -> u64
     ensures { CalledOn (timed_c (λ c. loss_call c mask.now (high yes)) packed.old array.old) packed.old result packed.new array.new }
 {
-    let came = unpack(packed);
-    if came.answer != 0 {
-        return bare(came.answer);
-    }
-    let done = came.device.loss(array, mask, yes != 0);
-    store(done.answer, done.device, packed);
-    bare(done.answer)
+    timed(
+        packed,
+        array,
+        |device, array| device.loss(array, mask, yes != 0),
+    )
 }
 
 // A run over samples of the pins: the transactions carried out in order, the bits missing in them, and one output byte for each sample.
@@ -136,9 +158,7 @@ pub fn m25p_pins(packed: &mut [u8], array: &mut [u8], samples: &[u8], output: &m
         return bare(came.answer);
     }
     let done = pins::run(came.device, array, samples, output);
-    let answer = done.answer;
-    store(answer.number, done.device, packed);
-    packed_answer(answer)
+    carried(done, packed)
 }
 
 // A batch: its items carried out in order, or nothing at all.
@@ -157,8 +177,7 @@ pub fn m25p_batch(
         return bare(came.answer);
     }
     let done = batch::run(came.device, array, items, responses, answers, missing);
-    store(done.answer, done.device, packed);
-    bare(done.answer)
+    checked(done, packed)
 }
 
 // A report: a batch carried out and counted, or nothing at all.
@@ -177,8 +196,7 @@ pub fn m25p_report(
         return bare(came.answer);
     }
     let done = report::run(came.device, array, items, responses, answers, totals);
-    store(done.answer, done.device, packed);
-    bare(done.answer)
+    checked(done, packed)
 }
 
 // An answer with a number of blocks where a transaction has its driven count.
@@ -187,10 +205,8 @@ fn blocks_answer(reply: Reply) -> u64
     ensures { result ≡ packed_answer (with_blocks reply) }
 {
     packed_answer(Answer {
-        number: reply.answer,
-        first: 0,
         count: reply.blocks as u32,
-        missing: 0,
+        ..Answer::bare(reply.answer)
     })
 }
 
@@ -238,8 +254,7 @@ pub fn m25p_bus_transact(
     if answer.number != 0 {
         return packed_answer(answer);
     }
-    let next = done.row;
-    rows::write(next, at, at + 1, row);
+    rows::write(&done.row[at..at + 1], at, row);
     packed_answer(answer)
 }
 
@@ -256,7 +271,6 @@ pub fn m25p_bus_wait(row: &mut [u8], array: &mut [u8], ticks: u32) -> u64
     if done.answer != 0 {
         return bare(done.answer);
     }
-    let next = done.row;
-    rows::write(next, 0, n, row);
+    rows::write(&done.row[..n], 0, row);
     bare(0)
 }

@@ -10,12 +10,12 @@ use borrow.Author.Tests.{eq-eqb}
 use lib.Dec.{eqb, lit<}
 use lib.ListN.{length, get_or, drop, length-take, length-drop}
 use lib.Arith.{lt-one}
-use lib.Bits.{bit_and, and_step, and_zero_l, and_zero_r, and_le_l}
+use lib.Bits.{bit_and, and_step, and_shr, and_zero_l, and_zero_r, and_le_l}
 use lib.Count.{ones, ones_step}
 use Rattle.slices.specs.Changed.{map_at, sum_at}
 use Rattle.slices.proofs.Sums.{sum-zero, zeros-sum, sum-places}
 use Rattle.slices.proofs.Maps.{length-map, get_or-map}
-use Rattle.slices.proofs.Ands.{and-half, and-odd}
+use Rattle.slices.proofs.Ands.{and-odd}
 use Rattle.slices.proofs.Choices.{cond_ind}
 use Rattle.memory.specs.Memory.{blank, filled, reached, landed, programmed}
 use Rattle.memory.specs.Missing.{unmet, missing_at, missing, page_of}
@@ -50,13 +50,13 @@ met (suc k) s x h l =
     let half : c / 2 ≡ 2 ^ k - 1 - x / 2 = halved k x l in
     let low : c % 2 ≡ 1 - x % 2 = lowered k x l in
     let e : ones (bit_and s c) ≡ min (s % 2) (1 - x % 2) + ones (bit_and (s / 2) (2 ^ k - 1 - x / 2)) =
-    ones_step (bit_and s c) ∙ ap₂ (λ (a b : ℕ). a + ones b) (and-odd s c ∙ ap (min (s % 2)) low) (and-half s c ∙ ap (bit_and (s / 2)) half) in
+    ones_step (bit_and s c) ∙ ap₂ (λ (a b : ℕ). a + ones b) (and-odd s c ∙ ap (min (s % 2)) low) (and_shr s c 1 ∙ ap (bit_and (s / 2)) half) in
     let ih = met k (s / 2) (x / 2) (omega arith) (omega arith) in
     let lows : s % 2 < 2 = omega arith in
     let lowx : x % 2 < 2 = omega arith in (
       λ z. let n = none _ _ (sym e ∙ z) in and_step x s ∙ (ap₂ (λ (a b : ℕ). a * 2 + b) (ih.0 n.1) (low-met (s % 2) (x % 2) lows n.0) ∙ whole s),
       λ z.
-          let t : bit_and (x / 2) (s / 2) ≡ s / 2 = sym (and-half x s) ∙ ap (λ (n : ℕ). n / 2) z in
+          let t : bit_and (x / 2) (s / 2) ≡ s / 2 = sym (and_shr x s 1) ∙ ap (λ (n : ℕ). n / 2) z in
           let u : min (x % 2) (s % 2) ≡ s % 2 = sym (and-odd x s) ∙ ap (λ (n : ℕ). n % 2) z in
           e ∙ ap₂ (λ (a b : ℕ). a + b) (met-low (s % 2) (x % 2) lows lowx u) (ih.1 t),
     )
@@ -78,7 +78,7 @@ again (suc k) s x h l =
     let d : ℕ = 2 ^ suc k - 1 - y in
     let half : c / 2 ≡ 2 ^ k - 1 - x / 2 = halved k x l in
     let low : c % 2 ≡ 1 - x % 2 = lowered k x l in
-    let half' : d / 2 ≡ 2 ^ k - 1 - bit_and (x / 2) (s / 2) = rw (← and-half x s) (halved k y (omega arith)) in
+    let half' : d / 2 ≡ 2 ^ k - 1 - bit_and (x / 2) (s / 2) = rw (← and_shr x s 1) (halved k y (omega arith)) in
     let low' : d % 2 ≡ 1 - min (x % 2) (s % 2) = rw (← and-odd x s) (lowered k y (omega arith)) in
     and_step s d
     ∙ ap₂ (λ (a b : ℕ). bit_and (s / 2) a * 2 + min (s % 2) b) half' low'

@@ -4,17 +4,17 @@ use mathlib.Core.Path.{◌≡◌, refl, sym, ap, ◌∙◌}
 use mathlib.Core.Bool.{Bool, true, false, cond, ◌&&◌, ◌||◌, true≢false}
 use mathlib.Core.List.{List, [], ◌∷◌}
 use Prim.Native.Nat.{ℕ, ◌+◌, ◌-◌, ◌*◌, ◌/◌, ◌%◌, ◌≤◌, ◌<◌, min}
-use native.Mathlib.Nat.{add_assoc, mod-add-mod, mod-eq_of_lt, div-zero}
+use native.Mathlib.Nat.{add_assoc, mod-add-mod, mod-eq_of_lt, mod_self, div-zero}
 use native.Mathlib.Numerals.{add-one}
 use native.Mathlib.Omega.{arith}
-use borrow.Author.Tests.{eqb-true, eqb-false}
-use lib.ListN.{length, get_or, set, take, drop, drop_of_length-le, get_or-eq_default, length-set, length-replicate, get_or-replicate}
-use lib.Seq.{drop-cons, get_or-set_same, get_or-set_other}
+use borrow.Author.Tests.{eqb-true, eqb-false, leb-true, leb-false, ltb-true, ltb-false}
+use lib.ListN.{length, get_or, set, take, drop, length-drop, drop_of_length-le, get_or-eq_default, length-set, length-replicate, get_or-replicate}
+use lib.Seq.{drop-cons, get_or-drop, get_or-set_same, get_or-set_other}
 use lib.Bits.{bit_and}
-use lib.Dec.{eqb}
-use Rattle.slices.specs.Changed.{map_at, window, put}
-use Rattle.slices.proofs.Maps.{map-agree, get_d_any}
-use Rattle.slices.proofs.Windows.{window-block, window-clamp, window_more}
+use lib.Dec.{eqb, leb, ltb}
+use Rattle.slices.specs.Changed.{map_at, window, put, stored}
+use Rattle.slices.proofs.Maps.{map-then, map-agree, get_d_any}
+use Rattle.slices.proofs.Windows.{window-in, window-above, window-block, window-clamp, window_more}
 use Rattle.slices.proofs.Parts.{getD-lent}
 use Rattle.slices.proofs.Ands.{and_ff}
 use Rattle.memory.specs.Memory.{blank, filled, reached, landed, anded, programmed, rolled}
@@ -91,8 +91,40 @@ run_is a out out₀ address at done run p h q = window_more done (done + run) (�
 pub next-at : (address done at run n : ℕ) → at ≡ (address + done) % n → (at + run) % n ≡ (address + (done + run)) % n
 next-at address done at run n p = ap (λ (m : ℕ). (m + run) % n) p ∙ (mod-add-mod (address + done) n run ∙ ap (λ (m : ℕ). m % n) (omega arith))
 
-pub run-falls : (n m out done at run : ℕ) → out ≡ n → done < out → at < m → run ≡ min (out - done) (m - at) → n - (done + run) < n - done
-run-falls n m out done at run l h k e = omega arith
+-- behind the last byte comes byte 0
+pub round : (address done at next n : ℕ) → at ≡ (address + done) % n → at ≤ n → next ≡ done + (n - at) → 0 ≡ (address + next) % n
+round address done at next n p h q =
+    let z : n ≡ at + (n - at) = omega arith in
+    rw q (sym (mod_self n) ∙ ap (λ (m : ℕ). m % n) z ∙ next-at address done at (n - at) n p)
+
+-- the bytes from a place of the array on, copied behind what is read so far
+pub rolls-on : (a out₀ : List ℕ) (address at done next : ℕ) {out : List ℕ} → 0 < length a → at ≡ (address + done) % length a → next ≡ done + (length a - at) → out ≡ map_at (window 0 done (λ i x. rolled a address i)) out₀
+    → map_at (stored done (drop at a)) out ≡ map_at (window 0 next (λ i x. rolled a address i)) out₀
+unfolding stored
+rolls-on a out₀ address at done next pos p r q =
+    ap (map_at (stored done (drop at a))) q ∙ map-then (window 0 done read) (stored done (drop at a)) out₀
+    ∙ map-agree _ _ out₀ (λ i lt. go i (get_or out₀ i 0) (leb done i) refl (ltb i next) refl)
+  where
+    read : ℕ → ℕ → ℕ
+    read i x = rolled a address i
+
+    go : (i x : ℕ) → (s : Bool) → leb done i ≡ s → (t : Bool) → ltb i next ≡ t
+        → cond (leb done i) (get_or (drop at a) (i - done) (window 0 done read i x)) (window 0 done read i x) ≡ window 0 next read i x
+    go i x true e true f =
+        let h : done ≤ i = leb-true done i e in
+        let k : i < next = ltb-true i next f in
+        let lt : at + (i - done) < length a = omega arith in
+        let z : address + i ≡ address + done + (i - done) = omega arith in
+        let m : (address + i) % length a ≡ at + (i - done) =
+        ap (λ (n : ℕ). n % length a) z ∙ (sym (mod-add-mod (address + done) (length a) (i - done)) ∙ (ap (λ (n : ℕ). (n + (i - done)) % length a) (sym p) ∙ mod-eq_of_lt lt)) in
+        rw e (get_or-drop at a (i - done) _ ∙ get_d_any a (at + (i - done)) _ 255 lt ∙ ap (λ (n : ℕ). get_or a n 255) (sym m) ∙ sym (window-in 0 next read i x (omega arith) k))
+    go i x true e false f =
+        let h : done ≤ i = leb-true done i e in
+        let k : next ≤ i = ltb-false i next f in
+        rw e (get_or-eq_default (drop at a) _ (omega (arith, length-drop at a)) ∙ window-above 0 done read i x h ∙ sym (window-above 0 next read i x k))
+    go i x false e t f =
+        let h : i < done = leb-false done i e in
+        rw e (window-in 0 done read i x (omega arith) h ∙ sym (window-in 0 next read i x (omega arith) (omega arith)))
 
 -- ---- the latch, slot by slot
 

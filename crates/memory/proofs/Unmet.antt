@@ -1,19 +1,22 @@
 -- Laws of `specs/Missing.antt`: what a latch that is all 00 at first counts, how many bits can be missing, and which slots the data reaches.
 -- Assumes nothing.
-use mathlib.Core.Path.{◌≡◌, refl, sym, ap, ◌∙◌}
+use mathlib.Core.Path.{◌≡◌, refl, sym, ap, ap₂, ◌∙◌}
 use mathlib.Core.Bool.{Bool, true, false, cond, ◌||◌, false≢true}
 use mathlib.Core.List.{List, [], ◌∷◌}
-use Prim.Native.Nat.{ℕ, zero, suc, ◌+◌, ◌-◌, ◌*◌, ◌/◌, ◌%◌, ◌≤◌, ◌<◌, min}
-use native.Mathlib.Nat.{le_refl}
+use Prim.Native.Nat.{ℕ, zero, suc, ◌+◌, ◌-◌, ◌*◌, ◌/◌, ◌%◌, ◌≤◌, ◌<◌}
+use native.Mathlib.Nat.{add-zero, zero-add, add-suc, suc-add}
 use native.Mathlib.Omega.{arith}
-use borrow.Author.Tests.{eq-eqb, leb-true, leb-false}
-use lib.Dec.{eqb, leb, lit≤}
-use lib.ListN.{length, get_or, take, drop, replicate, drop_of_length-le, length-take, length-drop, length-replicate, get_or-replicate}
-use lib.Seq.{take_all, get_or-take, get_or-drop}
+use borrow.Author.Tests.{eq-eqb}
+use lib.Dec.{eqb, lit≤}
+use lib.ListN.{length, get_or, drop, replicate, length-take, length-replicate, get_or-replicate}
+use lib.Seq.{get_or-take, get_or-drop}
 use lib.Bits.{bit_and, and_le_r, and_zero_l}
 use lib.Count.{ones, ones-le}
+use Rattle.std.specs.List.{sum_by, zip}
+use Rattle.std.proofs.lemmas.List.Sums.{sum_by-cons, sum_by-le}
+use Rattle.std.proofs.lemmas.Slice.Zip.{length-zip}
 use Rattle.slices.specs.Changed.{sum_from, sum_at}
-use Rattle.slices.proofs.Sums.{sum-agree, sum-le}
+use Rattle.slices.proofs.Sums.{sum-agree, sum-le, zeros-sum}
 use Rattle.slices.proofs.Choices.{cond_ind}
 use Rattle.memory.specs.Memory.{filled, reached, landed}
 use Rattle.memory.specs.Missing.{unmet, missing_at, missing, page_of, most_missing}
@@ -52,22 +55,20 @@ pub missing-is : (at : ℕ) (s page : List ℕ) → length page ≤ 256 → sum_
 unfolding missing
 missing-is at s page few = sum-agree _ _ page (λ i x l. wanted-is at s i x (omega arith))
 
--- ---- the page
+-- slots and the bytes of a page, pair by pair: where there is no slot, nothing is wanted
+pairs-from : (k : ℕ) (all slots page : List ℕ) → ((j : ℕ) → get_or slots j 0 ≡ get_or all (k + j) 0) → sum_by (λ p. unmet p.0 p.1) (zip slots page) ≡ sum_from k (λ i x. unmet (get_or all i 0) x) page
+pairs-from k all [] page h = sym (zeros-sum k (λ i x. unmet (get_or all i 0) x) page (λ i l. rw (← h i) (nothing (get_or page i 0))))
+pairs-from k all (s ∷ slots) [] h = refl
+pairs-from k all (s ∷ slots) (x ∷ page) h =
+    let e : get_or all k 0 ≡ s = rw (← add-zero k) (sym (h 0)) in
+    sum_by-cons (λ p. unmet p.0 p.1) (s, x) (zip slots page)
+    ∙ ap₂ (λ (a b : ℕ). unmet a x + b) (sym e) (pairs-from (suc k) all slots page (λ j. h (suc j) ∙ ap (λ (i : ℕ). get_or all i 0) (add-suc k j ∙ sym (suc-add k j))))
 
--- the page, lent as the first 256 bytes from its start on
-pub page-lent : (at : ℕ) (xs : List ℕ) (from : ℕ) → from ≡ min (at / 256 * 256) (length xs) → take 256 (take (length xs - from) (drop from xs)) ≡ page_of at xs
-unfolding page_of
-page-lent at xs from e =
-    let k : length (drop from xs) ≤ length xs - from = simp length-drop (le_refl _) in
-    ap (take 256) (take_all (length xs - from) (drop from xs) k ∙ same (leb (at / 256 * 256) (length xs)) refl)
-  where
-    same : (b : Bool) → leb (at / 256 * 256) (length xs) ≡ b → drop from xs ≡ drop (at / 256 * 256) xs
-    same true q = let h = leb-true (at / 256 * 256) (length xs) q in let z : from ≡ at / 256 * 256 = omega arith in rw z
-    same false q =
-        let h = leb-false (at / 256 * 256) (length xs) q in
-        let z : length xs ≤ from = omega arith in
-        let y : length xs ≤ at / 256 * 256 = omega arith in
-        drop_of_length-le xs z ∙ sym (drop_of_length-le xs y)
+pub pairs-unmet : (slots page : List ℕ) → sum_by (λ p. unmet p.0 p.1) (zip slots page) ≡ sum_at (λ k x. unmet (get_or slots k 0) x) page
+unfolding sum_at
+pairs-unmet slots page = pairs-from 0 slots slots page (λ j. ap (λ (i : ℕ). get_or slots i 0) (sym (zero-add j)))
+
+-- ---- the page
 
 -- it has 256 bytes at the most
 pub page-few : (at : ℕ) (xs : List ℕ) → length (page_of at xs) ≤ 256
@@ -84,6 +85,11 @@ page-byte at xs k h = get_or-take 256 (drop (at / 256 * 256) xs) k 0 h ∙ get_o
 -- at most 8 in a byte
 unmet-few : (slot x : ℕ) → unmet slot x ≤ 8
 unmet-few slot x = ones-le 8 (bit_and slot (255 - x)) (omega (arith, and_le_r slot (255 - x)))
+
+-- at most 8 in a pair
+pub pairs-few : (slots page : List ℕ) → sum_by (λ p. unmet p.0 p.1) (zip slots page) ≤ length slots * 8
+pairs-few slots page =
+    omega (arith, sum_by-le (λ p. unmet p.0 p.1) 8 (zip slots page) (λ k d l. unmet-few (get_or (zip slots page) k d).0 (get_or (zip slots page) k d).1), length-zip slots page)
 
 -- at most 8 for each slot that the data reached, and 0 for the others
 pub missing-most : (at : ℕ) (s page : List ℕ) → missing at s page ≤ sum_at (λ slot x. cond (reached at s slot) 8 0) page

@@ -3,13 +3,13 @@
 use mathlib.Core.Path.{◌≡◌, refl, sym, ap, ap₂, ◌∙◌}
 use mathlib.Core.Bool.{Bool, true, false, cond, ◌&&◌, ◌||◌}
 use mathlib.Core.List.{List, [], ◌∷◌}
-use Prim.Native.Nat.{ℕ, suc, ◌+◌, ◌-◌, ◌*◌, ◌/◌, ◌%◌, ◌≤◌, ◌<◌, min}
+use Prim.Native.Nat.{ℕ, suc, ◌+◌, ◌-◌, ◌*◌, ◌/◌, ◌%◌, ◌<◌, min}
 use native.Mathlib.Omega.{arith}
-use borrow.Author.Tests.{eqb-true, eqb-false, lt-ltb, le-ltb, ltb-true, ltb-false}
-use lib.ListN.{length, get_or, take, drop, replicate, length-replicate, length-drop}
+use borrow.Author.Tests.{eqb-true, eqb-false, leb-true, leb-false, lt-ltb, le-ltb, ltb-true, ltb-false}
+use lib.ListN.{length, get_or, take, drop, drop_of_length-le, replicate, length-replicate, length-drop}
 use lib.Seq.{take_all, get_or-drop}
 use lib.Bits.{bit_and, bit_or, and_self}
-use lib.Dec.{eqb, ltb}
+use lib.Dec.{eqb, leb, ltb}
 use Rattle.slices.specs.Changed.{map_at, window}
 use Rattle.slices.proofs.Maps.{map-agree, get_or-map, length-map, get_d_any}
 use Rattle.slices.proofs.Windows.{window-end}
@@ -30,6 +30,14 @@ pub page-written : (at count : ℕ) (slots xs : List ℕ) (from n : ℕ) → fro
     → map_at (window from (from + n) (λ i x. placed at count slots (i - from) x)) xs ≡ map_at (replaced at count slots) xs
 unfolding replaced
 page-written at count slots xs from n p q = page-at at (placed at count slots) (λ i j x e. ap₂ (λ (b : Bool) (k : ℕ). cond b (get_or slots k 0) x) (named-paged at count i j e) e) xs from n p q
+
+-- the bytes from a place on, or from the end where there are none
+pub rest-lent : (at : ℕ) (xs : List ℕ) (from : ℕ) → from ≡ min at (length xs) → take (length xs - from) (drop from xs) ≡ drop at xs
+rest-lent at xs from e = take_all (length xs - from) (drop from xs) (omega (arith, length-drop from xs)) ∙ go (leb at (length xs)) refl
+  where
+    go : (b : Bool) → leb at (length xs) ≡ b → drop from xs ≡ drop at xs
+    go true q = let h = leb-true at (length xs) q in let z : from ≡ at = omega arith in rw z
+    go false q = let h = leb-false at (length xs) q in drop_of_length-le xs (omega arith) ∙ sym (drop_of_length-le xs (omega arith))
 
 -- a cut write is a write of the page as it is, each byte or the mask
 pub write-cut : (at count : ℕ) (mask xs : List ℕ) {page slots : List ℕ} (from : ℕ) → from ≡ min (at / 256 * 256) (length xs)

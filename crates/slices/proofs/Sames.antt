@@ -1,11 +1,12 @@
 -- Laws of `same_bytes`: it says that two lists are equal.
 -- Assumes nothing.
 use mathlib.Core.Path.{◌≡◌, refl, sym, ap, ap₂, ◌∙◌}
-use mathlib.Core.Bool.{Bool, true, false, ◌&&◌, false≢true}
+use mathlib.Core.Bool.{Bool, true, ◌&&◌, false≢true}
 use mathlib.Core.List.{List, [], ◌∷◌, ◌++◌}
 use Prim.Native.Nat.{ℕ, ◌+◌, ◌<◌, ◌≤◌}
 use native.Mathlib.Nat.{le_of_suc-le-suc, not-suc-le-zero}
 use native.Mathlib.Numerals.{add-one}
+use Rattle.std.proofs.Math.Bool.{and_assoc, and-true}
 use lib.Dec.{eqb}
 use lib.ListN.{length, get_or, take, drop, drop_of_length-le}
 use lib.Seq.{drop-cons}
@@ -26,26 +27,13 @@ same-is (x ∷ xs) (y ∷ ys) h =
     let p = both (eqb x y) (same_bytes xs ys) h in
     ap₂ {C = List ℕ} (λ a l. a ∷ l) (eqb-true x y p.0) (same-is xs ys p.1)
 
--- lists of other lengths differ
-pub same-long : (xs ys : List ℕ) → (length xs ≡ length ys → ⊥) → false ≡ same_bytes xs ys
-same-long xs ys n = go (same_bytes xs ys) refl
-  where
-    go : (b : Bool) → same_bytes xs ys ≡ b → false ≡ same_bytes xs ys
-    go true e = absurd (n (ap length (same-is xs ys e)))
-    go false e = sym e
-
-and_assoc : (a b c : Bool) → a && (b && c) ≡ a && b && c
-and_assoc true b c = refl
-and_assoc false b c = refl
-
 pub and-end : (a : Bool) → a && true ≡ a
-and-end true = refl
-and-end false = refl
+and-end = and-true
 
--- a loop that has come to i: one byte more, the end
+-- compared up to place i: one byte more, the end
 pub same_next : (xs ys : List ℕ) (i : ℕ) (all : Bool) {r : Bool} → r ≡ all && same_bytes (drop i xs) (drop i ys) → i < length xs → i < length ys
     → r ≡ all && eqb (get_or xs i 0) (get_or ys i 0) && same_bytes (drop (i + 1) xs) (drop (i + 1) ys)
-same_next xs ys i all e h k = e ∙ rw (drop-cons xs i 0 h, drop-cons ys i 0 k, add-one i) (and_assoc all _ _)
+same_next xs ys i all e h k = e ∙ rw (drop-cons xs i 0 h, drop-cons ys i 0 k, add-one i) (sym (and_assoc all _ _))
 
 pub same_end : (xs ys : List ℕ) (i : ℕ) (all : Bool) {r : Bool} → r ≡ all && same_bytes (drop i xs) (drop i ys) → length xs ≤ i → length ys ≤ i → all ≡ r
 same_end xs ys i all e h k = sym (e ∙ rw (drop_of_length-le xs h, drop_of_length-le ys k) (and-end all))
@@ -54,4 +42,4 @@ same_end xs ys i all e h k = sym (e ∙ rw (drop_of_length-le xs h, drop_of_leng
 pub same-cut : (ys xs zs : List ℕ) → length ys ≤ length xs → same_bytes xs (ys ++ zs) ≡ same_bytes (take (length ys) xs) ys && same_bytes (drop (length ys) xs) zs
 same-cut [] xs zs h = refl
 same-cut (y ∷ ys) [] zs h = absurd (not-suc-le-zero h)
-same-cut (y ∷ ys) (x ∷ xs) zs h = ap (λ (b : Bool). eqb x y && b) (same-cut ys xs zs (le_of_suc-le-suc h)) ∙ and_assoc (eqb x y) _ _
+same-cut (y ∷ ys) (x ∷ xs) zs h = ap (λ (b : Bool). eqb x y && b) (same-cut ys xs zs (le_of_suc-le-suc h)) ∙ sym (and_assoc (eqb x y) _ _)

@@ -1,4 +1,4 @@
--- Laws of `stored`: bytes written to the front of a list, part by part.
+-- Laws of `stored`: bytes copied to the front of a list, or stored part by part.
 -- Assumes nothing.
 use mathlib.Core.Path.{◌≡◌, refl, sym, ap, ◌∙◌}
 use mathlib.Core.Bool.{Bool, true, false, cond}
@@ -6,16 +6,34 @@ use mathlib.Core.List.{List, [], ◌++◌}
 use Prim.Native.Nat.{ℕ, ◌+◌, ◌-◌, ◌<◌, ◌≤◌, min}
 use native.Mathlib.Nat.{zero-add}
 use native.Mathlib.Omega.{arith}
-use borrow.Author.Tests.{leb-true, leb-false, le-leb, lt-leb}
+use borrow.Author.Tests.{leb-true, leb-false, ltb-true, ltb-false, le-leb, lt-leb}
 use borrow.Rule.Slice.PartMut.{put_mid}
-use lib.Dec.{leb}
-use lib.ListN.{length, get_or, take, drop, get_or-append, get_or-eq_default}
-use lib.Seq.{get_or-append-add}
+use lib.Dec.{leb, ltb}
+use lib.ListN.{length, get_or, take, drop, length-append, length-drop, get_or-append, get_or-eq_default}
+use lib.Seq.{length-take-le, get_or-take, get_or-drop, get_or-append-add}
 use Rattle.slices.specs.Changed.{map_at, window, stored}
 use Rattle.slices.proofs.Choices.{cond_ind}
 use Rattle.slices.proofs.Maps.{map-then, map-ext, map_same, map-agree, map_is, get_d_any}
 use Rattle.slices.proofs.Windows.{window-in, window-below}
 use Rattle.slices.proofs.Parts.{lent_map}
+
+-- as many bytes as there are places or bytes of src, copied to the front
+pub front-copied : (n : ℕ) (src xs : List ℕ) {ys : List ℕ} → n ≡ min (length xs) (length src) → ys ≡ take n src → ys ++ drop n xs ≡ map_at (get_or src) xs
+front-copied n src xs {ys} e p = map_is (get_or src) xs (ys ++ drop n xs) (simp (length-append, l, length-drop) (omega arith)) (λ i lt. go i lt (ltb i n) refl)
+  where
+    l : length ys ≡ n
+    l = ap length p ∙ length-take-le n src (omega arith)
+
+    go : (i : ℕ) → i < length xs → (b : Bool) → ltb i n ≡ b → get_or (ys ++ drop n xs) i 0 ≡ get_or src i (get_or xs i 0)
+    go i lt true q =
+        let k : i < n = ltb-true i n q in
+        get_or-append ys (drop n xs) 0 i (omega (arith, l)) ∙ rw p (get_or-take n src i 0 k ∙ get_d_any src i 0 _ (omega arith))
+    go i lt false q =
+        let k : n ≤ i = ltb-false i n q in
+        let z : i ≡ length ys + (i - n) = omega (arith, l) in
+        let y : i ≡ n + (i - n) = omega arith in
+        ap (λ (m : ℕ). get_or (ys ++ drop n xs) m 0) z ∙ get_or-append-add ys (drop n xs) (i - n) 0
+        ∙ get_or-drop n xs (i - n) 0 ∙ ap (λ (m : ℕ). get_or xs m 0) (sym y) ∙ sym (get_or-eq_default src _ (omega arith))
 
 -- the rest of a slice lent from a place on, or from its end where it is shorter, that came back with src copied to it
 pub stored-rest : (at start : ℕ) (src xs : List ℕ) {ys : List ℕ} → start ≡ min at (length xs) → ys ≡ map_at (get_or src) (take (length xs - start) (drop start xs))
@@ -67,3 +85,8 @@ stored-whole p xs e = sym (map_is _ xs p e (λ i h. let z : i - 0 ≡ i = omega 
 pub stored-none : (a : ℕ) (xs : List ℕ) → xs ≡ map_at (stored a []) xs
 unfolding stored
 stored-none a xs = sym (map-ext _ _ (λ i x. cond_ind (λ (y : ℕ). y ≡ x) (leb a i) refl refl) xs ∙ map_same xs)
+
+-- copied to the front
+pub copied-stored : (src xs : List ℕ) → map_at (get_or src) xs ≡ map_at (stored 0 src) xs
+unfolding stored
+copied-stored src xs = map-ext _ _ (λ i x. let z : i - 0 ≡ i = omega arith in rw (le-leb 0 i (omega arith), z)) xs

@@ -1,4 +1,5 @@
 -- The definitions of `slices`, `parts`, `memory`, `device`, `chip`, `batch`, `image`, `bus` and `m25p` told a second time: literal numbers, written from the paper and computed by the checker.
+pub mod Numbers
 pub mod Figures
 pub mod Cycles
 pub mod Record

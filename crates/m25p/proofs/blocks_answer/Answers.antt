@@ -1,11 +1,10 @@
 -- `m25p::blocks_answer` meets its contract.
-use lib.Dec.{lit≤}
+use Rattle.std.proofs.Common.{ap, ◌∙◌}
+use Rattle.chip.specs.declared.Answer.{Answer}
+use Rattle.m25p.specs.Calls.{packed_answer}
 use Rattle.m25p.specs.Image.{with_blocks}
 use Rattle.m25p.proofs.blocks_answer.Goals as goal
 
-pub packed_answer-requires : goal.packed_answer-requires
-packed_answer-requires c = lit≤ tt
-
 pub returns : goal.returns
 unfolding with_blocks
-returns c = c.packed_answer.ensures
+returns c = c.packed_answer.ensures ∙ ap (λ (a : Answer). packed_answer (record { number = a.number; first = a.first; count = c.args.reply.blocks; missing = a.missing })) c.bare.ensures

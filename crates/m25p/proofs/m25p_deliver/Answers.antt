@@ -17,5 +17,5 @@ returns c =
     let l : length a.packed.now ≡ packed_length = b.if-packed-ne-LENGTH.false in
     let d = as-delivered a.part a.array.now _ _ _ _ b.deliver-done.ensures in
     let k = b.deliver-done.result.answer in
-    delivers a.packed.now a.part a.array.now _ _ _ _ l b.deliver-done.ensures c.bare-2.ensures
-    (stores k b.deliver-done.result.device a.packed.now c.store.ensures l (λ z. (d z).1) ∙ same_next k _ _ a.packed.now (λ z. (d z).0))
+    delivers a.packed.now a.part a.array.now _ _ _ _ l b.deliver-done.ensures c.checked.ensures.number
+    (stores k b.deliver-done.result.device a.packed.now c.checked.ensures.bytes l (λ z. (d z).1) ∙ same_next k _ _ a.packed.now (λ z. (d z).0))

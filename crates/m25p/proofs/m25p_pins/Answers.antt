@@ -18,8 +18,8 @@ returns-then-came-ne0 c =
     let e = ap (λ (x : Checked). x.answer) c.unpack-came.ensures in
     refused a.packed.now a.array.now a.samples.now a.output.now (λ z. c.if-came-ne0.true (e ∙ z)) (c.bare.ensures ∙ ap (λ (k : ℕ). packed_answer (bare k)) e)
 
-pub packed_answer-requires : goal.packed_answer-requires
-packed_answer-requires c = run-few c.run-done.ensures
+pub carried-requires : goal.carried-requires
+carried-requires c = run-few c.run-done.ensures
 
 pub returns : goal.returns
 returns c =
@@ -31,5 +31,5 @@ returns c =
     let m : Ran (unpack_of a.packed.now).device a.array.now a.samples.now a.output.now t.run-done.result t.run-done.new.array t.run-done.new.output = rw (← u.ensures) t.run-done.ensures in
     let s = run_sound m (unpacked-sound a.packed.now z) in
     let k = t.run-done.result.answer.number in
-    ran a.packed.now a.array.now a.samples.now a.output.now z m c.packed_answer.ensures
-    (stores k t.run-done.result.device a.packed.now c.store.ensures (opened a.packed.now z).long (λ y. s) ∙ same_next k _ _ a.packed.now (next-is m))
+    ran a.packed.now a.array.now a.samples.now a.output.now z m c.carried.ensures.number
+    (stores k t.run-done.result.device a.packed.now c.carried.ensures.bytes (opened a.packed.now z).long (λ y. s) ∙ same_next k _ _ a.packed.now (next-is m))

@@ -14,4 +14,4 @@ returns c =
     let n = b in
     let u = n in
     let a = u.args in
-    carried a.packed.now a.array.now a.items.now a.responses.now a.answers.now a.totals.now u.unpack-came.ensures n.if-came-ne0.false b.run-done.ensures c.store.ensures c.bare-2.ensures
+    carried a.packed.now a.array.now a.items.now a.responses.now a.answers.now a.totals.now u.unpack-came.ensures n.if-came-ne0.false b.run-done.ensures c.checked.ensures.bytes c.checked.ensures.number

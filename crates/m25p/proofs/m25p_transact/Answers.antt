@@ -16,8 +16,8 @@ returns-then-came-ne0 c =
     let e = ap (λ (x : Checked). x.answer) u.ensures in
     refused a.packed.now a.array.now a.sent.now a.pulses a.w a.response.now (λ z. c.if-came-ne0.true (e ∙ z)) (c.bare.ensures ∙ ap (λ (k : ℕ). packed_answer (bare k)) e)
 
-pub packed_answer-requires : goal.packed_answer-requires
-packed_answer-requires c = few-missing _ _ _ _ _ _ c.transact-done.ensures
+pub carried-requires : goal.carried-requires
+carried-requires c = few-missing _ _ _ _ _ _ c.transact-done.ensures
 
 pub returns : goal.returns
 returns c =
@@ -29,5 +29,5 @@ returns c =
     let m : Meets (transacted (unpack_of a.packed.now).device a.array.now a.sent.now a.pulses (high a.w) a.response.now) t.transact-done.result.answer t.transact-done.result.device t.transact-done.new.array t.transact-done.new.response =
     rw (← u.ensures) t.transact-done.ensures in
     let s = next-sound a.packed.now a.array.now a.sent.now a.pulses (high a.w) a.response.now z m in
-    carried a.packed.now a.array.now a.sent.now a.pulses a.w a.response.now z m c.packed_answer.ensures
-    (stores t.transact-done.result.answer.number t.transact-done.result.device a.packed.now c.store.ensures (opened a.packed.now z).long (λ y. s))
+    carried a.packed.now a.array.now a.sent.now a.pulses a.w a.response.now z m c.carried.ensures.number
+    (stores t.transact-done.result.answer.number t.transact-done.result.device a.packed.now c.carried.ensures.bytes (opened a.packed.now z).long (λ y. s))

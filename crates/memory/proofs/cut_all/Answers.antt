@@ -1,8 +1,9 @@
 -- `memory::cut_all` meets its contract.
-use mathlib.Core.Path.{◌∙◌}
-use native.Mathlib.Omega.{arith}
-use Rattle.slices.proofs.Windows.{window-end}
+use mathlib.Core.Path.{sym, ◌∙◌}
+use Rattle.memory.specs.Memory.{ored, cut_sector}
+use Rattle.memory.proofs.Laws.{sector-none}
 use Rattle.memory.proofs.cut_all.Goals as goal
 
 pub returns : goal.returns
-returns c = c.or_part.ensures ∙ window-end _ _ _ (omega arith)
+unfolding cut_sector
+returns c = c.cut_sector.ensures ∙ sym (sector-none 0 (ored c.args.mask.now) _)

@@ -1,13 +1,16 @@
 -- `memory::cut_write` meets its contract.
-use mathlib.Core.Path.{◌∙◌}
-use Rattle.memory.proofs.Writes.{write-cut}
+use mathlib.Core.Path.{refl, sym, ◌∙◌}
+use Prim.Native.Nat.{◌*◌, ◌/◌, min}
+use native.Mathlib.Omega.{arith}
+use lib.ListN.{length}
+use Rattle.slices.proofs.Windows.{window-end}
+use Rattle.memory.proofs.Writes.{rest-lent, write-cut}
 use Rattle.memory.proofs.cut_write.Goals as goal
 
 pub returns : goal.returns
 returns c =
-    let orred = c in
-    let copied = orred in
-    let cut_off = copied in
-    let a = cut_off.args in
+    let a = c.args in
+    let page = a.address / 256 * 256 in
+    let from = min page (length a.array.now) in
     c.write_page.ensures
-    ∙ write-cut a.address a.count a.mask.now a.array.now cut_off.least-from.result cut_off.least-from.ensures copied.copy.ensures orred.or_part.ensures
+    ∙ write-cut a.address a.count a.mask.now a.array.now from refl (rw (rest-lent page a.array.now from refl, ← c.after.ensures) c.copy.ensures) (c.cut_all.ensures ∙ sym (window-end 256 _ _ (omega arith)))

@@ -1,18 +1,8 @@
 -- `memory::program_page` meets its contract.
-use mathlib.Core.Path.{◌∙◌}
-use Prim.Native.Nat.{◌+◌, ◌≤◌}
-use native.Mathlib.Omega.{arith}
-use lib.ListN.{length}
-use Rattle.slices.proofs.Parts.{lent_map}
-use Rattle.memory.specs.Memory.{anded}
-use Rattle.memory.proofs.Laws.{page-is}
+use Rattle.memory.specs.Memory.{anded, programmed}
+use borrow.Author.Rules.{rules}
 use Rattle.memory.proofs.program_page.Goals as goal
 
 pub returns : goal.returns
-returns c =
-    let a = c.args in
-    let n = c.least-n in
-    let from = c.least-from in
-    let h : from.result + n.result ≤ length a.array.now = omega arith in
-    lent_map from.result (from.result + n.result) a.array.now (omega arith) h (anded a.slots) c.and_page.ensures
-    ∙ page-is a.address a.slots a.array.now from.result n.result from.ensures n.ensures
+unfolding programmed
+returns c = c.change_sector.ensures (anded c.args.slots) (λ i x r l k h. search rules)

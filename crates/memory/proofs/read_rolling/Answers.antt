@@ -1,42 +1,51 @@
 -- `memory::read_rolling` meets its contract.
-use mathlib.Core.Path.{◌∙◌}
-use Prim.Native.Nat.{◌+◌, ◌≤◌, ◌<◌}
-use native.Mathlib.Omega.{arith}
-use lib.ListN.{length}
+use mathlib.Core.Path.{◌≡◌, sym, ◌∙◌}
+use mathlib.Core.Bool.{Bool, false}
+use Prim.Native.Nat.{ℕ, ◌+◌, ◌%◌, ◌<◌}
 use native.Mathlib.Nat.{add-zero, mod-lt}
+use native.Mathlib.Omega.{arith}
+use borrow.Author.Tests.{eqb-true, eqb-false}
+use lib.Dec.{eqb}
+use lib.ListN.{length}
 use Rattle.slices.proofs.Windows.{window-start, window-end}
-use Rattle.slices.proofs.Parts.{lent_map}
-use Rattle.memory.proofs.Laws.{run_is, next-at, run-falls, rolled-none}
-use borrow.Author.Rules.{rules}
+use Rattle.slices.proofs.Stores.{copied-stored}
+use Rattle.memory.proofs.Laws.{round, rolls-on, rolled-none}
 use Rattle.memory.proofs.read_rolling.Goals as goal
 
-pub returns-then-array-eq0 : goal.returns-then-array-eq0
-returns-then-array-eq0 c = c.fill.ensures ∙ rolled-none c.args.array.now c.args.address _ c.if-array-eq0.true
+-- an array that is not empty
+some : {n : ℕ} {r : Bool} → r ≡ eqb n 0 → r ≡ false → 0 < n
+some {n} e f = let h = eqb-false n 0 (sym e ∙ f) in omega arith
 
-pub loop-done-init : goal.loop-done-init
-loop-done-init c = (mod-lt _ (omega arith), rw add-zero, search rules, search rules, window-start 0 _ _)
+pub returns-then-is_empty : goal.returns-then-is_empty
+returns-then-is_empty c = c.fill.ensures ∙ rolled-none c.args.array.now c.args.address _ (eqb-true _ 0 (sym c.is_empty.ensures ∙ c.if-is_empty.true))
 
-pub loop-done-smaller : goal.loop-done-smaller
-loop-done-smaller c =
-    let l = c.loop-done in
-    run-falls _ _ _ _ _ _ l.invariant.3 c.loop-done-test.true l.invariant.0 c.least-run.ensures
-
-pub loop-done-preserved : goal.loop-done-preserved
-loop-done-preserved c =
-    let l = c.loop-done in
+pub loop-from-init : goal.loop-from-init
+loop-from-init c =
     let x = c.args in
-    let a = x.array.now in
-    let run = c.least-run.result in
-    let pos : 0 < length a = omega arith in
-    let fit : l.at + run ≤ length a = omega arith in
-    let room : l.done + run ≤ length l.out = omega arith in (
-      mod-lt _ pos,
-      next-at x.address l.done l.at run (length a) l.invariant.1,
-      search rules,
-      search rules,
-      lent_map l.done (l.done + run) l.out (omega arith) room _ c.copy.ensures
-          ∙ run_is a l.out x.out.now x.address l.at l.done run l.invariant.1 fit l.invariant.4,
+    let n = length x.array.now in
+    let at = x.address % n in
+    let pos : 0 < n = some c.is_empty.ensures c.if-is_empty.false in
+    let lt : at < n = mod-lt x.address pos in
+    let p : at ≡ (x.address + 0) % n = rw add-zero in (
+      round x.address 0 at _ n p (omega arith) (omega arith),
+      c.copy.ensures ∙ rw c.after.ensures (copied-stored _ x.out.now) ∙ rolls-on x.array.now x.out.now x.address at 0 _ pos p (omega arith) (window-start 0 _ _),
     )
 
-pub returns : goal.returns
-returns c = c.loop-done.invariant.4 ∙ window-end c.loop-done.done _ _ (omega arith)
+pub loop-from-preserved : goal.loop-from-preserved
+loop-from-preserved c =
+    let x = c.args in
+    let l = c.loop-from in
+    let pos : 0 < length x.array.now = some c.is_empty.ensures c.if-is_empty.false in (
+      round x.address l.from 0 _ (length x.array.now) l.invariant.0 (omega arith) (omega arith),
+      c.store.ensures ∙ rolls-on x.array.now x.out.now x.address 0 l.from _ pos l.invariant.0 (omega arith) l.invariant.1,
+    )
+
+pub returns-else-is_empty : goal.returns-else-is_empty
+returns-else-is_empty c = c.loop-from.invariant.1 ∙ window-end c.loop-from.from _ _ (omega arith)
+
+pub returns-else-is_empty-2 : goal.returns-else-is_empty-2
+returns-else-is_empty-2 c =
+    let x = c.args in
+    let l = c.loop-from in
+    let pos : 0 < length x.array.now = some c.is_empty.ensures c.if-is_empty.false in
+    c.store.ensures ∙ rolls-on x.array.now x.out.now x.address 0 l.from (l.from + length x.array.now) pos l.invariant.0 (omega arith) l.invariant.1 ∙ window-end _ _ _ (omega arith)

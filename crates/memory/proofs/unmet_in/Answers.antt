@@ -1,31 +1,18 @@
 -- `memory::unmet_in` meets its contract.
-use mathlib.Core.Path.{sym, ap, ◌∙◌}
-use Prim.Native.Nat.{ℕ, ◌+◌, ◌≤◌, ◌<◌}
-use native.Mathlib.Nat.{zero-add}
+use mathlib.Core.Path.{◌∙◌}
 use native.Mathlib.Omega.{arith}
-use lib.ListN.{length, get_or, drop}
-use Rattle.slices.specs.Changed.{sum_from, sum_at}
-use Rattle.slices.proofs.Sums.{sum-next, sum-end}
+use Rattle.std.proofs.Common.{rules, tests}
+use Rattle.std.proofs.lemmas.Iterator.{YieldsList-from_slice, YieldsList-from_map, YieldsList-from_zip}
+use Rattle.std.proofs.lemmas.Iterator.Consumers.{YieldsList-at, sum_by_from_yields_List, fits_by_from_yields_list}
 use Rattle.memory.specs.Missing.{unmet}
-use borrow.Author.Rules.{rules}
+use Rattle.memory.proofs.Unmet.{pairs-unmet, pairs-few}
 use Rattle.memory.proofs.unmet_in.Goals as goal
 
-pub loop-i-init : goal.loop-i-init
-unfolding sum_at
-loop-i-init c = (search rules, search rules, rw zero-add)
-
-pub loop-i-preserved : goal.loop-i-preserved
-loop-i-preserved c =
-    let page = c.args.page.now in
-    let slots = c.args.slots in
-    let i = c.loop-i.i in
-    let total = c.loop-i.total in
-    let h : i < length page = omega arith in
-    let f : ℕ → ℕ → ℕ = λ k x. unmet (get_or slots k 0) x in
-    (search rules, search rules, ap (λ (n : ℕ). total + n + sum_from (i + 1) f (drop (i + 1) page)) c.ones_in-total.ensures.0 ∙ (sym (sum-next f page i total h) ∙ c.loop-i.invariant.2))
+pub sum-requires-clause-fits : goal.sum-requires-clause-fits
+sum-requires-clause-fits c =
+    fits_by_from_yields_list _ _ c.map.result _ (YieldsList-from_map _ (λ p. unmet p.0 p.1) (YieldsList-at c.map.ensures.source (YieldsList-from_zip (YieldsList-at c.zip.ensures.first (YieldsList-from_slice c.args.slots cc)) (YieldsList-from_slice c.args.page.now c.zip.ensures.second.0))) c.map.ensures.closure (λ x r q k. search (rules, tests))) (omega (arith, pairs-few c.args.slots c.args.page.now))
 
 pub returns : goal.returns
 returns c =
-    let page = c.args.page.now in
-    let h : length page ≤ c.loop-i.i = omega arith in
-    sum-end _ page c.loop-i.i _ h ∙ c.loop-i.invariant.2
+    sum_by_from_yields_List _ _ c.map.result _ c.sum.ensures.ran (YieldsList-from_map _ (λ p. unmet p.0 p.1) (YieldsList-at c.map.ensures.source (YieldsList-from_zip (YieldsList-at c.zip.ensures.first (YieldsList-from_slice c.args.slots cc)) (YieldsList-from_slice c.args.page.now c.zip.ensures.second.0))) c.map.ensures.closure (λ x r q k. search (rules, tests)))
+    ∙ pairs-unmet c.args.slots c.args.page.now

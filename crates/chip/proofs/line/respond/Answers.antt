@@ -16,10 +16,10 @@ pub returns : goal.returns
 unfolding heard_row
 returns c =
     let b = c in
-    let start = b.least-start in
-    let n = b.least-n in
-    let s = b.span_of-s in
-    let row = b.row_heard-row in
+    let start = b.min-start in
+    let n = b.min-n in
+    let s = b.span_of in
+    let row = b.heard-row in
     let a = b.args in
     let asked = b.requires in
     let p = b.fill_part in

@@ -1,8 +1,8 @@
 -- `device::Device::ended` meets its contract.
-use mathlib.Core.Path.{◌∙◌}
 use Rattle.device.specs.Device.{ended}
+use borrow.Author.Rules.{rules}
 use Rattle.device.proofs.Device.ended.Goals as goal
 
 pub returns : goal.returns
 unfolding ended
-returns c = c.moded.ensures ∙ rw (c.remembering.ensures, c.none.ensures)
+returns c = search rules

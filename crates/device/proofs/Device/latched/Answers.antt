@@ -1,8 +1,8 @@
 -- `device::Device::latched` meets its contract.
-use mathlib.Core.Path.{refl}
 use Rattle.device.specs.Device.{latched}
+use borrow.Author.Rules.{rules}
 use Rattle.device.proofs.Device.latched.Goals as goal
 
 pub returns : goal.returns
 unfolding latched
-returns c = refl
+returns c = search rules

@@ -1,13 +1,12 @@
 -- `device::Device::sound` meets its contract.
 use Rattle.device.specs.Device.{sound}
+use borrow.Author.Rules.{rules}
 use Rattle.device.proofs.Device.sound.Goals as goal
 
-pub returns : goal.returns
+pub returns-then-sound : goal.returns-then-sound
 unfolding sound
-returns c =
-    let l = c in
-    let s = l in
-    let m = s in
-    let r = m in
-    let f = r in
-    rw (l.locks_sound-closed.ensures, s.sound-whole.ensures, s.is_busy.ensures, m.mode_sound-fits.ensures, r.ranged-write_status.ensures, r.ranged-bulk_erase.ensures, r.ranged-sector_erase.ensures, r.ranged-program.ensures, f.of-figures.ensures, f.known-known.ensures)
+returns-then-sound c = search rules
+
+pub returns-else-sound : goal.returns-else-sound
+unfolding sound
+returns-else-sound c = search rules

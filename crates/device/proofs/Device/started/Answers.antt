@@ -1,8 +1,8 @@
 -- `device::Device::started` meets its contract.
-use mathlib.Core.Path.{◌∙◌}
 use Rattle.device.specs.Device.{started}
+use borrow.Author.Rules.{rules}
 use Rattle.device.proofs.Device.started.Goals as goal
 
 pub returns : goal.returns
 unfolding started
-returns c = c.running.ensures ∙ rw c.remembering.ensures
+returns c = search rules

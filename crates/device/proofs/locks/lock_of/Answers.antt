@@ -1,8 +1,8 @@
 -- `device::locks::lock_of` meets its contract.
-use mathlib.Core.Path.{◌∙◌}
 use Rattle.device.specs.Locks.{lock_of}
+use borrow.Author.Rules.{rules}
 use Rattle.device.proofs.locks.lock_of.Goals as goal
 
 pub returns : goal.returns
 unfolding lock_of
-returns c = c.byte_at.ensures ∙ rw c.sector_of.ensures
+returns c = search rules

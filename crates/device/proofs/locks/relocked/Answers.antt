@@ -1,20 +1,14 @@
 -- `device::locks::relocked` meets its contract.
-use mathlib.Core.Path.{◌≡◌, sym}
-use Prim.Native.Nat.{◌/◌, ◌%◌}
-use native.Mathlib.Omega.{arith}
-use lib.ListN.{length}
-use lib.Seq.{set_out}
-use Rattle.device.specs.Locks.{registers, relocked}
+use Rattle.device.specs.Locks.{relocked}
 use borrow.Author.Rules.{rules}
+use native.Mathlib.Omega.{arith}
+use Rattle.std.proofs.lemmas.Grind.{common_steps}
 use Rattle.device.proofs.locks.relocked.Goals as goal
 
 pub returns-then-sector-lt-REGISTERS : goal.returns-then-sector-lt-REGISTERS
 unfolding relocked
-returns-then-sector-lt-REGISTERS c = rw c.sector_of-sector.ensures
+returns-then-sector-lt-REGISTERS c = search rules
 
 pub returns-else-sector-lt-REGISTERS : goal.returns-else-sector-lt-REGISTERS
 unfolding relocked
-returns-else-sector-lt-REGISTERS c =
-    let a = c.args in
-    let n : length a.locks ≡ registers = search rules in
-    sym (set_out a.locks (a.at / a.figures.sector_bytes) (a.b % 4) (omega (arith, c.sector_of-sector.ensures)))
+returns-else-sector-lt-REGISTERS c = grind (arith, common_steps)

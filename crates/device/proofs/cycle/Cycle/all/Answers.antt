@@ -1,8 +1,7 @@
 -- `device::cycle::Cycle::all` meets its contract.
-use mathlib.Core.Path.{refl}
-use Rattle.device.specs.Cycles.{all_cycle, no_slots}
+use Rattle.device.specs.Cycles.{all_cycle, no_cycle}
 use Rattle.device.proofs.cycle.Cycle.all.Goals as goal
 
 pub returns : goal.returns
-unfolding all_cycle no_slots
-returns c = refl
+unfolding all_cycle no_cycle
+returns c = rw c.none.ensures

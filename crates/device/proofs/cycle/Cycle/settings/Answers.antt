@@ -1,8 +1,7 @@
 -- `device::cycle::Cycle::settings` meets its contract.
-use mathlib.Core.Path.{refl}
-use Rattle.device.specs.Cycles.{settings_cycle, no_slots}
+use Rattle.device.specs.Cycles.{settings_cycle, no_cycle}
 use Rattle.device.proofs.cycle.Cycle.settings.Goals as goal
 
 pub returns : goal.returns
-unfolding settings_cycle no_slots
-returns c = refl
+unfolding settings_cycle no_cycle
+returns c = rw c.none.ensures

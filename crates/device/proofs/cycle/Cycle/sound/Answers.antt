@@ -1,9 +1,16 @@
 -- `device::cycle::Cycle::sound` meets its contract.
+use borrow.Author.Rules.{rules}
 use Rattle.device.specs.Cycles.{cycle_sound}
 use Rattle.device.proofs.cycle.Cycle.sound.Goals as goal
 
-pub returns : goal.returns
+pub returns-then-not-uses : goal.returns-then-not-uses
 unfolding cycle_sound
-returns c =
-    let n = c in
-    rw (n.named_sound-counted.ensures, n.slots_sound-whole.ensures, n.same-remembered.ensures, n.of-uses.ensures)
+returns-then-not-uses c = search rules
+
+pub returns-else-not-uses : goal.returns-else-not-uses
+unfolding cycle_sound
+returns-else-not-uses c = search rules
+
+pub returns-else-named_sound : goal.returns-else-named_sound
+unfolding cycle_sound
+returns-else-named_sound c = search rules

@@ -1,8 +1,7 @@
 -- `device::cycle::Cycle::write` meets its contract.
-use mathlib.Core.Path.{refl}
-use Rattle.device.specs.Cycles.{write_cycle}
+use Rattle.device.specs.Cycles.{write_cycle, no_cycle}
 use Rattle.device.proofs.cycle.Cycle.write.Goals as goal
 
 pub returns : goal.returns
-unfolding write_cycle
-returns c = refl
+unfolding write_cycle no_cycle
+returns c = rw c.none.ensures
