@@ -1,10 +1,10 @@
 // One case at a time, run side by side through the entry by value and through the entry that takes the record lent.
 //
-// A script is a run of steps parted by semicolons, each of words parted by spaces:
+// A script is a run of steps parted by semicolons, each of words parted by spaces, numbers in hexadecimal:
 //   x W bits hex   one transaction: prints the answer (number, first, count, bits missing), the response, and three marks:
 //                  r the record changed, a the array changed, b the response changed from byte n on
 //   y W bits head byte last   the same of 261 bytes: five of the head, 255 times the byte, the last
-//   w t            waits t ticks, one digit: prints the answer, and a where the array changed
+//   w t            waits t ticks: prints the answer, and a where the array changed
 //   p              powers up: prints the same
 //   l mask yes     power is lost and comes back, with this byte in each place of the mask, and yes for 1: prints the same
 //   a address      prints the array byte there
