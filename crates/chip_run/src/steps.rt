@@ -62,7 +62,7 @@ pub(crate) fn print_byte(rt: &impl Print, array: &[u8], at: usize) -> io::Result
     print!(rt; " {at:06x} is {x:02x}")
 }
 
-// Prints the status byte and the mode.
+// Prints the status byte and the mode. A `match`: the mode is another crate's type, and no Display of this one's.
 fn print_status(rt: &impl Print, d: Device) -> io::Result<()> {
     print!(rt; " status {:02x}", d.status())?;
     match d.mode {
@@ -72,7 +72,7 @@ fn print_status(rt: &impl Print, d: Device) -> io::Result<()> {
     }
 }
 
-// One step of a script.
+// One step of a script, by its letter: a script is text.
 fn take(rt: &impl Print, case: &mut Case<'_>, step: &[u8]) -> io::Result<()> {
     match byte_at(step, 0) {
         b'x' => send(rt, case, step),
