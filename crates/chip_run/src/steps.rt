@@ -1,10 +1,10 @@
 // One case at a time, run side by side through the entry by value and through the entry that takes the record lent.
 //
-// A script is a run of steps parted by semicolons, each of words parted by spaces:
+// A script is a run of steps parted by semicolons, each of words parted by spaces, numbers in hexadecimal:
 //   x W bits hex   one transaction: prints the answer (number, first, count, bits missing), the response, and three marks:
 //                  r the record changed, a the array changed, b the response changed from byte n on
 //   y W bits head byte last   the same of 261 bytes: five of the head, 255 times the byte, the last
-//   w t            waits t ticks, one digit: prints the answer, and a where the array changed
+//   w t            waits t ticks: prints the answer, and a where the array changed
 //   p              powers up: prints the same
 //   l mask yes     power is lost and comes back, with this byte in each place of the mask, and yes for 1: prints the same
 //   a address      prints the array byte there
@@ -62,7 +62,7 @@ pub(crate) fn print_byte(rt: &impl Print, array: &[u8], at: usize) -> io::Result
     print!(rt; " {at:06x} is {x:02x}")
 }
 
-// Prints the status byte and the mode.
+// Prints the status byte and the mode. A `match`: the mode is another crate's type, and no Display of this one's.
 fn print_status(rt: &impl Print, d: Device) -> io::Result<()> {
     print!(rt; " status {:02x}", d.status())?;
     match d.mode {
@@ -72,7 +72,7 @@ fn print_status(rt: &impl Print, d: Device) -> io::Result<()> {
     }
 }
 
-// One step of a script.
+// One step of a script, by its letter: a script is text.
 fn take(rt: &impl Print, case: &mut Case<'_>, step: &[u8]) -> io::Result<()> {
     match byte_at(step, 0) {
         b'x' => send(rt, case, step),
