@@ -1,6 +1,6 @@
 -- THEOREM: two batches one after the other, neither refused, leave what the batch of both leaves, their bytes appended and their bits missing added; and a batch that is not refused may be cut in two behind any item.
 -- Assumes nothing.
-use Rattle.std.proofs.Common.{◌≡◌, ℕ, zero, suc, ◌+◌, ◌-◌, ◌≤◌, true, List, [], ◌∷◌, ◌++◌, map, length, get_or, take, drop, sym, refl, ap, ◌∙◌, append_assoc, zero-add, arith, length-append, length-drop, length-take, get_or-take, drop-drop}
+use Rattle.std.proofs.Common.{◌≡◌, ℕ, zero, suc, ◌+◌, ◌≤◌, true, List, [], ◌∷◌, ◌++◌, map, length, get_or, take, drop, sym, refl, ap, ◌∙◌, append_assoc, zero-add, arith, length-append, length-drop, length-take, get_or-take, drop-drop}
 use lib.ListN.{get_or-append}
 use lib.Seq.{take-append-le}
 use Rattle.slices.specs.Bytes.{long}

@@ -47,7 +47,7 @@ abbrev pub AllFit : List Event → Type 0
 AllFit [] = Unit {0}
 AllFit (e ∷ es) = Fits e × AllFit es
 
-item-fits : (i : List ℕ) → good_item i ≡ true → length_in i ≤ 65535 → Fits (event_in i)
+pub item-fits : (i : List ℕ) → good_item i ≡ true → length_in i ≤ 65535 → Fits (event_in i)
 item-fits i g s = go (eqb (flag_in i) 16) refl
   where
     go : (b : Bool) → eqb (flag_in i) 16 ≡ b → Fits (event_in i)

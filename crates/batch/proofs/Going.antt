@@ -1,6 +1,6 @@
 -- The second pass: one event carried out, what is left after it, and the turns of the loop.
 -- Assumes nothing.
-use Rattle.std.proofs.Common.{◌≡◌, ℕ, ◌+◌, ◌-◌, ◌<◌, ◌≤◌, true, List, [], ◌∷◌, map, length, take, drop, set, sym, refl, ap, ◌∙◌, arith, length-set, drop_of_length-le}
+use Rattle.std.proofs.Common.{◌≡◌, ℕ, ◌+◌, ◌-◌, ◌<◌, ◌≤◌, true, List, [], ◌∷◌, map, length, take, drop, set, sym, refl, ap, ◌∙◌, arith, length-set}
 use borrow.Rule.Slice.PartMut.{put_mid}
 use Rattle.slices.specs.Changed.{laid}
 use Rattle.slices.proofs.Choices.{both}
@@ -10,9 +10,9 @@ use Rattle.device.specs.declared.Device.{Device}
 use Rattle.device.specs.Chip.{chip}
 use Rattle.chip.specs.declared.Done.{Done}
 use Rattle.chip.specs.Events.{Chip, Good, Event, sends, waits, starts, loses, after, reply, missed, story}
-use Rattle.chip.proofs.Events.{line-length, after-length, after-good}
+use Rattle.chip.proofs.Events.{line-length, after-good}
 use Rattle.batch.specs.declared.Tally.{Tally}
-use Rattle.batch.specs.Items.{items_from, items_of, good_item, all_good, event_in, events_of}
+use Rattle.batch.specs.Items.{items_of, good_item, all_good, event_in, events_of}
 use Rattle.batch.specs.Batch.{lines, numbers, room_of, room_for, wrapped}
 use Rattle.batch.specs.Found.{OneDone, Carried, carried_from, CarriedAs}
 
@@ -50,29 +50,18 @@ carried_none c a r k s m h l z = let n : wrapped (m + 0) ≡ m = omega arith in 
 
 -- ---- the loop
 
--- what is left from byte `at` on, carried out from here, gives what the whole gives from the start
-pub record Going (items : List ℕ) (na nr ns : ℕ) (whole : Carried) (at from k : ℕ) (d : Device) (m : ℕ) (array responses answers : List ℕ) : Type 0 where
-  pub within : at ≤ length items
-  pub arrays : length array ≡ na
-  pub responses-long : length responses ≡ nr
-  pub answers-long : length answers ≡ ns
-  pub good : Good (chip d array)
-  pub formed : all_good (items_of (drop at items)) ≡ true
-  pub room : from + room_for (events_of (drop at items)) ≤ length responses
-  pub places : k + length (events_of (drop at items)) ≤ length answers
-  pub small : wrapped m ≡ m
-  pub same : carried_from (events_of (drop at items)) (chip d array) from responses k answers m ≡ whole
+-- what is left, carried out from here, gives what the whole gives from the start
+pub record Going (rest : List (List ℕ)) (whole : Carried) (from k : ℕ) (t : Tally) (array responses answers : List ℕ) : Type 0 where
+  pub good : Good (chip t.device array)
+  pub formed : all_good rest ≡ true
+  pub room : from + room_for (map event_in rest) ≤ length responses
+  pub places : k + length (map event_in rest) ≤ length answers
+  pub small : wrapped t.missing ≡ t.missing
+  pub same : carried_from (map event_in rest) (chip t.device array) from responses k answers t.missing ≡ whole
 
-module _ (items : List ℕ) {na nr ns : ℕ} (whole : Carried) (at from k : ℕ) (d : Device) (m : ℕ) (array responses answers : List ℕ) (g : Going items na nr ns whole at from k d m array responses answers) (to : ℕ)
-    (next : items_of (drop at items) ≡ take (to - at) (drop at items) ∷ items_of (drop to items)) where
-  abbrev item : List ℕ
-  item = take (to - at) (drop at items)
-
-  abbrev rest : List (List ℕ)
-  rest = items_of (drop to items)
-
+module _ {rest : List (List ℕ)} {whole : Carried} {from k : ℕ} {t : Tally} {array responses answers : List ℕ} (g : Going rest whole from k t array responses answers) (item : List ℕ) (is : List (List ℕ)) (next : rest ≡ item ∷ is) where
   pub going-good : good_item item ≡ true
-  going-good = (both (good_item item) (all_good rest) (rw next at g.formed)).0
+  going-good = (both (good_item item) (all_good is) (rw next at g.formed)).0
 
   pub going-room : from + room_of (event_in item) ≤ length responses
   going-room = omega (arith, rw next at g.room)
@@ -87,12 +76,12 @@ module _ (items : List ℕ) {na nr ns : ℕ} (whole : Carried) (at from k : ℕ)
       let l : end ≤ length responses = omega (arith, going-room) in
       length-lent from end responses h l ∙ omega arith
 
-  pub going_next : (end : ℕ) → end ≡ from + room_of (event_in item) → to ≤ length items → {o : Done} {array' part : List ℕ} → OneDone (event_in item) (chip d array) o array' part → (m' : ℕ) → m' ≡ wrapped (m + o.answer.missing)
-      → Going items na nr ns whole to end (k + 1) o.device m' array' (put_mid from (end - from) responses part) (set answers k o.answer.number)
-  going_next end e le {o} {array'} {part} done m' sum =
-      let c : Chip = chip d array in
+  pub going_next : (end : ℕ) → end ≡ from + room_of (event_in item) → {o : Done} {array' part : List ℕ} → OneDone (event_in item) (chip t.device array) o array' part → (m : ℕ) → m ≡ wrapped (t.missing + o.answer.missing)
+      → Going is whole end (k + 1) (record { device = o.device; missing = m }) array' (put_mid from (end - from) responses part) (set answers k o.answer.number)
+  going_next end e {o} {array'} {part} done m sum =
+      let c : Chip = chip t.device array in
       let ev : Event = event_in item in
-      let es : List Event = map event_in rest in
+      let es : List Event = map event_in is in
       let f : from ≤ end = omega arith in
       let pl : length part ≡ end - from = ap length done.line ∙ reply-length ev c ∙ omega arith in
       let rs : put_mid from (end - from) responses part ≡ laid from part responses = lent_laid from end responses part f pl in
@@ -101,31 +90,25 @@ module _ (items : List ℕ) {na nr ns : ℕ} (whole : Carried) (at from k : ℕ)
       let rm = rw next at g.room in
       let pm = rw next at g.places in
       record {
-        within = le;
-        arrays = ap length done.memory ∙ after-length ev c ∙ g.arrays;
-        responses-long = rw rs (laid-length from part responses rl ∙ g.responses-long);
-        answers-long = length-set answers k o.answer.number ∙ g.answers-long;
         good = rw (done.device, done.memory) (after-good ev c g.good);
-        formed = (both (good_item item) (all_good rest) (rw next at g.formed)).1;
+        formed = (both (good_item item) (all_good is) (rw next at g.formed)).1;
         room = rw (rs, laid-length from part responses rl) (omega (arith, rm));
         places = rw (length-set answers k o.answer.number) (omega (arith, pm));
         small = rw sum (omega arith);
-        same = rw (rs, st, sum, e, done.device, done.memory, done.line, done.answer) (sym (carried-more ev es c from responses k answers m (omega (arith, rm)) (omega (arith, going-place))) ∙ (rw next at g.same));
+        same = rw (rs, st, sum, e, done.device, done.memory, done.line, done.answer) (sym (carried-more ev es c from responses k answers t.missing (omega (arith, rm)) (omega (arith, going-place))) ∙ (rw next at g.same));
       }
 
 pub going-first : (d : Device) (array items responses answers : List ℕ) → Good (chip d array) → all_good (items_of items) ≡ true → room_for (events_of items) ≤ length responses → length (events_of items) ≤ length answers
-    → Going items (length array) (length responses) (length answers) (carried_from (events_of items) (chip d array) 0 responses 0 answers 0) 0 0 0 d 0 array responses answers
-going-first d array items responses answers g f r p =
-    record { within = omega arith; arrays = refl; responses-long = refl; answers-long = refl; good = g; formed = f; room = omega arith; places = omega arith; small = refl; same = refl }
+    → (rest : List (List ℕ)) → rest ≡ items_of items → (k : ℕ) → k ≡ 0 → Going rest (carried_from (events_of items) (chip d array) 0 responses 0 answers 0) 0 k (record { device = d; missing = 0 }) array responses answers
+going-first d array items responses answers g f r p rest e k z =
+    rw (e, z)
+    record { good = g; formed = f; room = omega arith; places = omega arith; small = refl; same = refl }
 
-pub going_end : (items : List ℕ) {na nr ns : ℕ} (whole : Carried) (at from k : ℕ) {r : Tally} (array responses answers : List ℕ) → Going items na nr ns whole at from k r.device r.missing array responses answers → length items ≤ at
-    → CarriedAs whole r array responses answers
-unfolding items_from
-going_end items whole at from k {r} array responses answers g h =
-    let z : drop at items ≡ [] = drop_of_length-le items h in
+pub going_end : {rest : List (List ℕ)} {whole : Carried} {from k : ℕ} {t : Tally} {array responses answers : List ℕ} → Going rest whole from k t array responses answers → rest ≡ [] → CarriedAs whole t array responses answers
+going_end {from = from} {k = k} {t = t} {array = array} {responses = responses} {answers = answers} g z =
     let rm = rw z at g.room in
     let pm = rw z at g.places in
-    let e = sym (carried_none (chip r.device array) from responses k answers r.missing (omega (arith, rm)) (omega (arith, pm)) g.small) ∙ (rw z at g.same) in
+    let e = sym (carried_none (chip t.device array) from responses k answers t.missing (omega (arith, rm)) (omega (arith, pm)) g.small) ∙ (rw z at g.same) in
     record {
       device = ap (λ (o : Carried). o.chip.device) e;
       missing = ap (λ (o : Carried). o.missing) e;

@@ -1,14 +1,13 @@
 -- Laws of the items: the next one as the code finds it, and what the first pass finds.
 -- Assumes nothing.
-use Rattle.std.proofs.Common.{◌≡◌, ℕ, zero, suc, ◌+◌, ◌-◌, ◌/◌, ◌%◌, ◌<◌, ◌≤◌, min, Bool, true, false, cond, ◌&&◌, eqb, List, [], ◌∷◌, length, take, drop, sym, refl, ap, ◌∙◌, le_refl, arith, length-drop, drop_of_length-le, length-take, take_all, drop-drop}
+use Rattle.std.proofs.Common.{◌≡◌, ℕ, zero, suc, ◌+◌, ◌/◌, ◌%◌, ◌<◌, ◌≤◌, min, max, Bool, true, false, cond, ◌&&◌, eqb, List, [], ◌∷◌, map, length, take, drop, sym, refl, ap, ◌∙◌, le_refl, arith, length-drop, length-take}
 use native.Mathlib.Nat.{zero-min, suc-min-suc}
 use lib.Seq.{take-nil, drop-nil}
 use Rattle.slices.specs.Bytes.{word_at}
 use Rattle.chip.specs.Events.{sends, waits}
 use Rattle.batch.specs.declared.Sizes.{Sizes}
-use Rattle.batch.specs.Items.{length_in, flag_in, first_in, items_from, items_of, good_item, all_good, event_in, events_of}
+use Rattle.batch.specs.Items.{length_in, flag_in, first_in, items_from, items_of, good_item, all_good, event_in}
 use Rattle.batch.specs.Batch.{room_of, room_for}
-use Rattle.batch.specs.Found.{SizesAre}
 
 -- a count of bytes to skip is a drop
 pub items-skip : (xs : List ℕ) (k : ℕ) → items_from xs k ≡ items_of (drop k xs)
@@ -35,29 +34,12 @@ drop_min zero b = rw (zero-min (length b))
 drop_min (suc n) [] = drop-nil (min (suc n) 0)
 drop_min (suc n) (x ∷ xs) = rw (suc-min-suc n (length xs)) (drop_min n xs)
 
--- the next item, as the code finds it: `s` is what `size(&items[at..])` gives
-module _ (items : List ℕ) (at : ℕ) (lt : at < length items) (s : ℕ) (e : s ≡ min (3 + length_in (take (length items - at) (drop at items))) (length (take (length items - at) (drop at items)))) where
-  rest-is : take (length items - at) (drop at items) ≡ drop at items
-  rest-is = take_all (length items - at) (drop at items) (simp length-drop (le_refl _))
+-- the first item cut off, as the code finds it
+pub items_cut : (b : List ℕ) (n : ℕ) → n ≡ min (3 + length_in b) (length b) → 0 < length b → items_of b ≡ take n b ∷ items_of (drop n b)
+unfolding first_in
+items_cut b n e h = items-first b h ∙ rw (e, take_min (3 + length_in b) b, drop_min (3 + length_in b) b)
 
-  size_is : s ≡ min (3 + length_in (drop at items)) (length (drop at items))
-  size_is = rw rest-is at e
-
-  pub next-some : 0 < s
-  next-some = let z = length-drop at items in omega (arith, size_is)
-
-  pub next_fits : at + s ≤ length items
-  next_fits = let z = length-drop at items in omega (arith, size_is)
-
-  pub next-item : items_of (drop at items) ≡ take (at + s - at) (drop at items) ∷ items_of (drop (at + s) items)
-  unfolding first_in
-  next-item =
-      let b : List ℕ = drop at items in
-      let h : 0 < length b = simp length-drop (omega arith) in
-      let z : at + s - at ≡ s = omega arith in
-      items-first b h ∙ rw (z, ← drop-drop s at items, size_is, take_min (3 + length_in b) b, drop_min (3 + length_in b) b)
-
--- ---- the first pass
+-- ---- what the items need
 
 -- the response bytes of an item are at most its bytes
 room-le : (i : List ℕ) → room_of (event_in i) ≤ length i
@@ -68,34 +50,60 @@ room-le i = go (eqb (flag_in i) 16)
     go true = omega arith
     go false = simp length-drop (omega arith)
 
--- what is left from byte `at` on, added to what was counted, is the whole
-pub record Measured (items : List ℕ) (at : ℕ) (all : Bool) (sum count : ℕ) : Type 0 where
-  pub within : at ≤ length items
-  pub small : sum ≤ at
-  pub few : count ≤ at
-  pub good : all && all_good (items_of (drop at items)) ≡ all_good (items_of items)
-  pub room : sum + room_for (events_of (drop at items)) ≡ room_for (events_of items)
-  pub places : count + length (events_of (drop at items)) ≡ length (events_of items)
+-- the bytes of the items are those of the batch
+abbrev pub bytes_of : List (List ℕ) → ℕ
+bytes_of [] = 0
+bytes_of (i ∷ is) = length i + bytes_of is
 
-pub measured-first : (items : List ℕ) → Measured items 0 true 0 0
-measured-first items = record { within = omega arith; small = omega arith; few = omega arith; good = refl; room = omega arith; places = omega arith }
+-- each has a byte at least
+from-few : (xs : List ℕ) (k : ℕ) → length (items_from xs k) + k ≤ max (length xs) k
+unfolding items_from
+from-few [] k = omega arith
+from-few (x ∷ xs) zero = let h = from-few xs (2 + length_in (x ∷ xs)) in omega arith
+from-few (x ∷ xs) (suc k) = let h = from-few xs k in omega arith
+
+pub items-few : (b : List ℕ) → length (items_of b) ≤ length b
+items-few b = let h = from-few b 0 in omega arith
+
+from-bytes : (xs : List ℕ) (k : ℕ) → bytes_of (items_from xs k) + k ≡ max (length xs) k
+unfolding items_from first_in
+from-bytes [] k = omega arith
+from-bytes (x ∷ xs) zero = let h = from-bytes xs (2 + length_in (x ∷ xs)) in let l = length-take (3 + length_in (x ∷ xs)) (x ∷ xs) in omega arith
+from-bytes (x ∷ xs) (suc k) = let h = from-bytes xs k in omega arith
+
+pub items-bytes : (b : List ℕ) → bytes_of (items_of b) ≡ length b
+items-bytes b = let h = from-bytes b 0 in omega arith
+
+-- no more response bytes
+room-few : (is : List (List ℕ)) → room_for (map event_in is) ≤ bytes_of is
+room-few [] = le_refl 0
+room-few (i ∷ is) = omega (arith, room-le i, room-few is)
+
+pub map-long : (is : List (List ℕ)) → length (map event_in is) ≡ length is
+map-long [] = refl
+map-long (i ∷ is) = ap suc (map-long is)
+
+-- ---- the first pass
+
+-- what is left, added to what was counted, is the whole
+pub record Measured (items rest : List (List ℕ)) (s : Sizes) : Type 0 where
+  pub good : s.good && all_good rest ≡ all_good items
+  pub room : s.room + room_for (map event_in rest) ≡ room_for (map event_in items)
+  pub places : s.count + length (map event_in rest) ≡ length (map event_in items)
 
 and_assoc : (a b c : Bool) → (a && b) && c ≡ a && (b && c)
 and_assoc true b c = refl
 and_assoc false b c = refl
 
-pub measured-next : (items : List ℕ) (at to : ℕ) (all : Bool) (sum count : ℕ) → Measured items at all sum count → at < to → to ≤ length items
-    → items_of (drop at items) ≡ take (to - at) (drop at items) ∷ items_of (drop to items)
-    → Measured items to (all && good_item (take (to - at) (drop at items))) (sum + room_of (event_in (take (to - at) (drop at items)))) (count + 1)
-measured-next items at to all sum count m lt le e =
-    let i : List ℕ = take (to - at) (drop at items) in
-    let l : length i ≤ to - at = simp (length-take, length-drop) (omega arith) in
-    let r = room-le i in
+-- and neither sum is more than the bytes
+pub measured-few : (b : List ℕ) {rest : List (List ℕ)} {s : Sizes} → Measured (items_of b) rest s → (s.room + room_for (map event_in rest) ≤ length b) × (s.count + length rest ≤ length b)
+measured-few b {rest} m = (omega (arith, m.room, room-few (items_of b), items-bytes b), omega (arith, m.places, map-long rest, map-long (items_of b), items-few b))
+
+pub measured_next : {items rest : List (List ℕ)} {s : Sizes} (i : List ℕ) (is : List (List ℕ)) → rest ≡ i ∷ is → Measured items rest s
+    → Measured items is (record { good = s.good && good_item i; room = s.room + room_of (event_in i); count = s.count + 1 })
+measured_next {items} {rest} {s} i is e m =
     record {
-      within = le;
-      small = omega (arith, m.small);
-      few = omega (arith, m.few);
-      good = and_assoc all (good_item i) _ ∙ (rw e at m.good);
+      good = and_assoc s.good (good_item i) _ ∙ (rw e at m.good);
       room = omega (arith, rw e at m.room);
       places = omega (arith, rw e at m.places);
     }
@@ -104,8 +112,5 @@ and-true : (a : Bool) → a && true ≡ a
 and-true true = refl
 and-true false = refl
 
-pub measured-end : (items : List ℕ) (at : ℕ) {s : Sizes} → Measured items at s.good s.room s.count → length items ≤ at → SizesAre items s
-unfolding items_from
-measured-end items at {s} m h =
-    let z : drop at items ≡ [] = drop_of_length-le items h in
-    record { good = sym (and-true s.good) ∙ (rw z at m.good); room = omega (arith, rw z at m.room); count = omega (arith, rw z at m.places) }
+pub measured-end : {items rest : List (List ℕ)} {s : Sizes} → rest ≡ [] → Measured items rest s → (s.good ≡ all_good items) × (s.room ≡ room_for (map event_in items)) × (s.count ≡ length (map event_in items))
+measured-end {items} {rest} {s} z m = (sym (and-true s.good) ∙ (rw z at m.good), omega (arith, rw z at m.room), omega (arith, rw z at m.places))

@@ -1,6 +1,6 @@
 -- One item carried out: what a good item is, and that call and event agree.
 -- Assumes nothing.
-use Rattle.std.proofs.Common.{◌≡◌, ℕ, ◌+◌, ◌/◌, ◌%◌, ◌<◌, ◌≤◌, Bool, true, false, ◌&&◌, ◌||◌, eqb, ltb, List, [], ◌∷◌, length, drop, refl, ap, ◌∙◌, arith, length-drop, ltb-true, eq-eqb, ne_eqb, eqb-true}
+use Rattle.std.proofs.Common.{◌≡◌, ℕ, ◌+◌, ◌/◌, ◌%◌, ◌<◌, ◌≤◌, Bool, true, false, ◌&&◌, ◌||◌, eqb, ltb, List, [], ◌∷◌, length, drop, refl, ap, ◌∙◌, arith, ltb-true, eq-eqb, ne_eqb, eqb-true}
 use mathlib.Core.Bool.{false≢true}
 use Rattle.slices.specs.Bytes.{word_at}
 use Rattle.slices.proofs.Choices.{both}
@@ -49,17 +49,14 @@ one-waits c item e response l {a} {r} {array'} b h =
     rw w (record { answer = b ∙ ap bare h.answer; device = h.device; memory = h.memory; line = empty response (l ∙ ap room_of w) })
 
 -- a transaction
-pub one-sends : (c : Chip) → Good c → (item : List ℕ) → good_item item ≡ true → (flag_in item ≡ 16 → ⊥) → length_in item ≤ 65535 → (response : List ℕ) → length response ≡ room_of (event_in item)
-    → {o : Done} {array' response' : List ℕ} → Transacted c.device c.array (drop 3 item) (flag_in item / 2) (eqb (flag_in item % 2) 1) response o.answer o.device array' response'
-    → OneDone (event_in item) c o array' response'
-one-sends c g item good n few response l m =
-    let s = sends-is item n in
-    let h : length (drop 3 item) ≤ 65536 = simp length-drop (omega (arith, item-long item good)) in
-    let e = sent_is c g (drop 3 item) (flag_in item / 2) (eqb (flag_in item % 2) 1) h (omega (arith, flag_small item good n)) response (l ∙ ap room_of s) in
-    rw s
-    (record {
+pub one-sends : (c : Chip) → Good c → (bytes : List ℕ) (pulses : ℕ) (w : Bool) → length bytes ≤ 65536 → pulses ≤ 7 → (response : List ℕ) → length response ≡ length bytes
+    → {o : Done} {array' response' : List ℕ} → Transacted c.device c.array bytes pulses w response o.answer o.device array' response'
+    → OneDone (sends bytes pulses w) c o array' response'
+one-sends c g bytes pulses w h p response l m =
+    let e = sent_is c g bytes pulses w h p response l in
+    record {
       answer = m.answer ∙ ap (λ (o : Outcome). o.answer) e;
       device = m.device ∙ ap (λ (o : Outcome). o.device) e;
       memory = m.memory ∙ ap (λ (o : Outcome). o.array) e;
       line = m.line ∙ ap (λ (o : Outcome). o.response) e;
-    })
+    }

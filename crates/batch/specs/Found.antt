@@ -3,11 +3,18 @@ use Rattle.std.specs.Prelude.{◌≡◌, ℕ, ◌+◌, List, length}
 use Rattle.slices.specs.Changed.{laid}
 use Rattle.device.specs.Chip.{Chip}
 use Rattle.chip.specs.declared.Done.{Done}
-use Rattle.chip.specs.Events.{Event, after, reply, run, missed, story}
+use Rattle.chip.specs.Events.{Event, sends, waits, after, reply, run, missed, story}
 use Rattle.batch.specs.declared.Sizes.{Sizes}
+use Rattle.batch.specs.declared.reading.Item.{Item}
+use Rattle.batch.specs.declared.reading.Item.TheVariants.{Transaction, Wait}
 use Rattle.batch.specs.declared.Tally.{Tally}
 use Rattle.batch.specs.Items.{items_of, all_good, events_of}
 use Rattle.batch.specs.Batch.{lines, numbers, room_for, wrapped}
+
+-- an item as the code reads it, as an event
+abbrev pub event_of : Item → Event
+event_of (Transaction sent pulses w) = sends sent.now pulses w
+event_of (Wait ticks) = waits ticks
 
 -- what the first pass finds
 pub record SizesAre (items : List ℕ) (s : Sizes) : Type 0 where

@@ -4,7 +4,6 @@ pub mod Numbers
 pub mod Chips
 pub mod Turns
 pub mod Waits
-pub mod Eight
 pub mod Whole
 pub mod Runs
 pub mod Theorems

@@ -1,15 +1,16 @@
--- What the numbers 51, 52, 6, 53 and 0 of a bus say, and the tests of a row that is the first n of nine places.
+-- What the numbers 51, 52, 6, 53 and 0 of a bus say.
 -- Assumes nothing.
-use mathlib.Core.Path.{◌≡◌, refl, sym, ap, ◌∙◌}
+use mathlib.Core.Path.{◌≡◌, refl, sym}
 use mathlib.Core.Bool.{Bool, true, false, not, ◌||◌, false≢true}
 use mathlib.Core.List.{List}
 use Prim.Native.Nat.{ℕ, ◌≤◌, ◌<◌}
 use native.Mathlib.Omega.{arith}
-use borrow.Author.Tests.{ltb-false, leb-true, leb-false, eqb-true, eqb-false, not-false, lt-ltb, le-ltb, le-leb, lt-leb, eq-eqb, ne_eqb}
+use borrow.Author.Tests.{ltb-false, leb-false, eqb-true, eqb-false, not-false, lt-ltb, le-ltb, lt-leb, eq-eqb, ne_eqb}
 use lib.Dec.{eqb, leb, ltb}
-use lib.ListN.{length, take}
-use lib.Seq.{length-take-le, take_all}
+use lib.ListN.{length}
 use Rattle.slices.proofs.Choices.{past}
+use Rattle.refusals.specs.declared.Refusal.{Refusal}
+use Rattle.refusals.specs.Numbers.{number_of}
 use Rattle.device.specs.declared.Device.{Device}
 use Rattle.bus.specs.Bus.{sum_of, all_sound}
 use Rattle.bus.specs.Calls.{out_of_range, whole_number, wait_number, bus_number}
@@ -35,43 +36,6 @@ in-range n a b = rw (ne_eqb n 0 (λ e. omega arith), le-ltb 8 n b)
 -- more than eight
 pub out-above : (n : ℕ) → 8 < n → out_of_range n ≡ true
 out-above n h = rw (lt-ltb 8 n h) (or-true (eqb n 0))
-
-module _ (ds : List Device) (n : ℕ) (nine : length ds ≡ 9) where
-  -- the first n of nine places are in range exactly if n is
-  range-take : out_of_range (length (take n ds)) ≡ out_of_range n
-  range-take = go (leb n 9) refl
-    where
-      go : (t : Bool) → leb n 9 ≡ t → out_of_range (length (take n ds)) ≡ out_of_range n
-      go true e = let h = leb-true n 9 e in ap out_of_range (length-take-le n ds (omega arith))
-      go false e =
-          let h = leb-false n 9 e in
-          let l : length (take n ds) ≡ 9 = ap length (take_all n ds (omega arith)) ∙ nine in
-          out-above (length (take n ds)) (omega arith) ∙ sym (out-above n (omega arith))
-
-  -- and then there are n of them
-  pub counted : out_of_range n ≡ false → length (take n ds) ≡ n
-  counted e = let r = range-is n e in length-take-le n ds (omega arith)
-
-  -- the numbers by the tests of n
-  pub wait-out : (array : ℕ) → out_of_range n ≡ true → 51 ≡ wait_number (take n ds) array
-  unfolding wait_number
-  wait-out array e = rw (range-take, e)
-
-  pub wait-in : (array : ℕ) → out_of_range n ≡ false → whole_number (take n ds) array ≡ wait_number (take n ds) array
-  unfolding wait_number
-  wait-in array e = rw (range-take, e)
-
-  pub bus-out : (array k : ℕ) → out_of_range n ≡ true → 51 ≡ bus_number (take n ds) array k
-  unfolding bus_number
-  bus-out array k e = rw (range-take, e)
-
-  pub bus-absent : (array k : ℕ) → out_of_range n ≡ false → n ≤ k → 52 ≡ bus_number (take n ds) array k
-  unfolding bus_number
-  bus-absent array k e f = rw (range-take, e, counted e, le-leb n k f)
-
-  pub bus-in : (array k : ℕ) → out_of_range n ≡ false → k < n → whole_number (take n ds) array ≡ bus_number (take n ds) array k
-  unfolding bus_number
-  bus-in array k e f = rw (range-take, e, counted e, lt-leb n k f)
 
 -- a row of one to eight sound records, beside an array that is the sum of their parts
 pub record Whole (row : List Device) (array : ℕ) : Type 0 where
@@ -115,3 +79,7 @@ zero-wait row array h = rw (in-range (length row) h.some h.few) (zero-whole row 
 pub zero-bus : (row : List Device) (array k : ℕ) → Whole row array → k < length row → bus_number row array k ≡ 0
 unfolding bus_number
 zero-bus row array k h l = rw (in-range (length row) h.some h.few, lt-leb (length row) k l) (zero-whole row array h)
+
+-- no refusal has the number 0
+pub refused-some : (r : Refusal) → number_of r ≡ 0 → ⊥
+refused-some r e = grind arith

@@ -1,13 +1,15 @@
--- Laws of rows of records: sums and soundness, one record more.
+-- Laws of rows of records: sums, one record more, and the library's words for a sum and a test.
 -- Assumes nothing.
 use mathlib.Core.Path.{◌≡◌, refl, sym, ap, ◌∙◌}
-use mathlib.Core.Bool.{Bool, true, false, ◌&&◌}
+use mathlib.Core.Bool.{Bool, ◌&&◌}
 use mathlib.Core.List.{List, [], ◌∷◌, ◌++◌}
-use Prim.Native.Nat.{ℕ, zero, suc, ◌+◌, ◌*◌, ◌≤◌, ◌<◌}
+use Prim.Native.Nat.{ℕ, zero, suc, ◌+◌, ◌*◌, ◌^◌, ◌≤◌, ◌<◌}
 use native.Mathlib.Nat.{zero-add}
 use native.Mathlib.Omega.{arith}
 use lib.ListN.{length, get_or, take}
-use lib.Seq.{take-suc}
+use lib.Seq.{take-suc, take_all}
+use Rattle.std.proofs.lemmas.List.Recursion.{is_sum_by, same_from_clauses}
+use Rattle.std.specs.List.{sum_by, list_all}
 use Rattle.parts.proofs.Laws.{sane}
 use Rattle.device.specs.declared.Device.{Device}
 use Rattle.device.specs.Device.{sound, zero_record}
@@ -41,17 +43,25 @@ sum_less (suc i) zero ds h = absurd (omega arith)
 sum_less (suc i) (suc j) [] h = omega arith
 sum_less (suc i) (suc j) (d ∷ ds) h = let p = sum_less i j ds (omega arith) in omega (arith, p)
 
-and-true : (a : Bool) → a && true ≡ a
-and-true true = refl
-and-true false = refl
+-- a chip's bytes end where those of all do, or before
+pub own_within : (ds : List Device) (i : ℕ) → i < length ds → sum_of (take i ds) + bytes_of (at ds i) ≤ sum_of ds
+own_within ds i h =
+    let e = sum-next ds i h in
+    let s = sum_less (suc i) (length ds) ds (omega arith) in
+    let a = ap sum_of (take_all (length ds) ds (omega arith)) in
+    omega (arith, e, s, a)
 
-and_assoc : (a b c : Bool) → a && (b && c) ≡ a && b && c
-and_assoc true b c = refl
-and_assoc false b c = refl
+-- eight parts have at most 128 MiB
+pub sum-fits : (ds : List Device) → length ds ≤ 8 → sum_of ds < 2 ^ 64
+sum-fits ds h = let s = sum-few (length ds) ds in let a = ap sum_of (take_all (length ds) ds (omega arith)) in omega (arith, s, a)
 
-sound-append : (a b : List Device) → all_sound (a ++ b) ≡ all_sound a && all_sound b
-sound-append [] b = refl
-sound-append (d ∷ a) b = ap (λ (t : Bool). sound d && t) (sound-append a b) ∙ and_assoc (sound d) (all_sound a) (all_sound b)
+-- in the library's words
+pub sum_by-bytes : (ds : List Device) → sum_of ds ≡ sum_by bytes_of ds
+sum_by-bytes ds = is_sum_by sum_of bytes_of refl (λ _ _. refl) ds
 
-pub sound-next : (ds : List Device) (i : ℕ) → i < length ds → all_sound (take (suc i) ds) ≡ all_sound (take i ds) && sound (at ds i)
-sound-next ds i h = ap all_sound (take-suc ds i zero_record h) ∙ (sound-append (take i ds) (at ds i ∷ []) ∙ ap (λ (t : Bool). all_sound (take i ds) && t) (and-true (sound (at ds i))))
+pub all_by-sound : (ds : List Device) → all_sound ds ≡ list_all sound ds
+all_by-sound ds = same_from_clauses all_sound (list_all sound) (λ (d : Device) (t : Bool). sound d && t) refl (λ _ _. refl) (λ _ _. refl) ds
+
+-- so the sum fits 64 bits
+pub sum_by-fits : (ds : List Device) → length ds ≤ 8 → sum_by bytes_of ds < 2 ^ 64
+sum_by-fits ds h = rw (← sum_by-bytes ds) (sum-fits ds h)

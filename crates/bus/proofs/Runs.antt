@@ -14,7 +14,7 @@ use Rattle.slices.specs.Chosen.{on_zero}
 use Rattle.slices.proofs.Choices.{cond_ind}
 use Rattle.parts.specs.Parts.{figures_of}
 use Rattle.device.specs.declared.Device.{Device}
-use Rattle.device.specs.Chip.{Chip, chip}
+use Rattle.device.specs.Chip.{Chip}
 use Rattle.device.specs.Time.{time_number, wait_call}
 use Rattle.chip.specs.declared.answers.Verdict.{Verdict}
 use Rattle.chip.specs.declared.answers.Verdict.TheVariants.{Refused, Ignored, Executed}
@@ -27,7 +27,7 @@ use Rattle.chip.proofs.Verdicts.{Decision, refuses, ignores, executes, verdict-i
 use Rattle.chip.proofs.Rules.{array-stays, make-stays}
 use Rattle.chip.proofs.Events.{sent_is, sent-room, taken-as-event}
 use Rattle.bus.specs.Bus.{sum_of, all_sound, chips_in, nth}
-use Rattle.bus.specs.Calls.{out_of_range, whole_number, wait_number, bus_number, chosen, bused, Shared, all_wait, bus_waited, Waited}
+use Rattle.bus.specs.Calls.{out_of_range, whole_number, wait_number, bus_number, bused, Shared, all_wait, bus_waited, Waited}
 use Rattle.bus.specs.Runs.{refusal}
 use Rattle.bus.proofs.Numbers.{Whole, wait-zero, bus-zero}
 use Rattle.bus.proofs.Chips.{chips-length}

@@ -18,16 +18,17 @@ use Rattle.device.specs.Time.{time_number, wait_call}
 use Rattle.chip.specs.declared.Answer.{Answer}
 use Rattle.chip.specs.Answers.{host_number, decided, verdict_of}
 use Rattle.chip.specs.Outcome.{Outcome, bare, outcome_of, transacted}
-use Rattle.chip.specs.Events.{left, Good, Event, sends, waits, Reply, after, reply, run, story}
+use Rattle.chip.specs.Events.{left, Good, Event, sends, Reply, after, reply, run, story}
 use Rattle.chip.proofs.Rules.{array-stays, only-zero-changes}
-use Rattle.bus.specs.Bus.{bytes_of, chips_in, at, nth}
+use Rattle.bus.specs.Bus.{bytes_of, chips_in, nth}
 use Rattle.bus.specs.Calls.{whole_number, wait_number, bus_number, Shared, bused, Bused, Waited, bus_waited, AllWaited}
 use Rattle.bus.specs.Runs.{Bus, chip_of, Call, asks, passes, number_of, next, runs, refusal, none_refused, heard, given}
 use Rattle.bus.proofs.Numbers.{Whole, bus-zero, zero-bus, zero-wait}
 use Rattle.bus.proofs.Chips.{chip-at, row-set, array-in, array_same}
 use Rattle.bus.proofs.Turns.{shared, done-is, refused-is}
 use Rattle.bus.proofs.Waits.{passed_is}
-use Rattle.bus.proofs.Eight.{turned-length, waited-length}
+use Rattle.bus.proofs.Turns.{turned-length}
+use Rattle.bus.proofs.Waits.{waited-length}
 use Rattle.bus.proofs.Runs.{asked-chip, asked-reply, other-stays, waited-chip, waited-reply}
 
 suc-not-zero : {n : ℕ} → suc n ≡ 0 → ⊥

@@ -1,4 +1,4 @@
--- The proofs of `bus::wait`: one chip after the other waits.
+-- The proofs of `bus::lent::wait_lent`: one chip after the other waits.
 -- Assumes nothing.
 use mathlib.Core.Path.{◌≡◌, refl, sym, ap, ap₂, ◌∙◌}
 use mathlib.Core.List.{List, [], ◌∷◌, ◌++◌, append_assoc, append-nil}
@@ -6,9 +6,11 @@ use Prim.Native.Nat.{ℕ, suc, ◌+◌, ◌-◌, ◌≤◌, ◌<◌}
 use native.Mathlib.Nat.{add-zero}
 use native.Mathlib.Numerals.{add-one}
 use native.Mathlib.Omega.{arith}
-use lib.ListN.{length, get_or, set, take, drop, length-take, length-set, length-append, length-drop, take-append-drop}
+use lib.ListN.{length, get_or, set, take, drop, length-set, length-append, length-drop}
 use lib.Seq.{length-take-le, take_all, take-suc-set, drop-set-lt, drop-drop, get_or-drop, take_at, drop_at}
-use Rattle.slices.proofs.Choices.{other}
+use Rattle.slices.proofs.Choices.{other, zero-ind}
+use Rattle.refusals.specs.declared.Refusal.{Refusal}
+use Rattle.refusals.specs.Numbers.{number_of}
 use Rattle.device.specs.declared.Device.{Device}
 use Rattle.device.specs.declared.Checked.{Checked}
 use Rattle.device.specs.Device.{zero_record}
@@ -17,9 +19,9 @@ use Rattle.device.specs.Time.{wait_call, Handed}
 use Rattle.chip.specs.Events.{waits}
 use Rattle.chip.proofs.Events.{after-length}
 use Rattle.bus.specs.Bus.{bytes_of, sum_of, chips_in, row_of, array_of, at}
-use Rattle.bus.specs.Calls.{wait_number, Waited, all_wait, bus_waited, Passes}
-use Rattle.bus.proofs.Rows.{at-any, sum-next, sum_less}
-use Rattle.bus.proofs.Numbers.{wait-zero}
+use Rattle.bus.specs.Calls.{wait_number, Waited, all_wait, bus_waited, AllWaited}
+use Rattle.bus.proofs.Rows.{at-any, sum-next, own_within}
+use Rattle.bus.proofs.Numbers.{wait-zero, refused-some}
 use Rattle.bus.proofs.Chips.{chips-next, row-append, array-append}
 
 -- 0: what a wait leaves
@@ -28,9 +30,14 @@ pub passed_is : (row : List Device) (array : List ℕ) (t : ℕ) → wait_number
 unfolding bus_waited
 passed_is row array t z = rw z
 
--- 0: n is at most eight
-pub wait-few : (ds : List Device) (n array : ℕ) → wait_number (take n ds) array ≡ 0 → length ds ≡ 9 → n ≤ 8
-wait-few ds n array z nine = let h = wait-zero (take n ds) array z in let l = length-take n ds in omega (arith, h.few, l)
+rows_long : (row : List Device) (array : List ℕ) (t : ℕ) → length (row_of (all_wait (chips_in row array) t)) ≡ length row
+rows_long [] array t = refl
+rows_long (d ∷ ds) array t = ap suc (rows_long ds (drop (bytes_of d) array) t)
+
+-- as many records as before
+pub waited-length : (row : List Device) (array : List ℕ) (t : ℕ) → length (bus_waited row array t).row ≡ length row
+unfolding bus_waited
+waited-length row array t = zero-ind (λ (s : Waited). length s.row ≡ length row) (wait_number row (length array)) (rows_long row array t) refl
 
 wait-append : (a b : List Chip) (t : ℕ) → all_wait (a ++ b) t ≡ all_wait a t ++ all_wait b t
 wait-append [] b t = refl
@@ -48,8 +55,8 @@ module _ (ds : List Device) (xs : List ℕ) (t : ℕ) where
   one_more i h = ap (λ (c : List Chip). all_wait c t) (chips-next ds xs i h) ∙ wait-append (chips_in (take i ds) xs) (one i ∷ []) t
 
   -- what is so before chip i waits: those before it have waited, those from it on have not
-  pub record Going (n i from : ℕ) (next : List Device) (array : List ℕ) : Type 0 where
-    pub within : i ≤ n
+  pub record Going (i from : ℕ) (next : List Device) (array : List ℕ) : Type 0 where
+    pub within : i ≤ length ds
     pub places : length next ≡ length ds
     pub lengths : length array ≡ length xs
     pub place : from ≡ sum_of (take i ds)
@@ -58,23 +65,23 @@ module _ (ds : List Device) (xs : List ℕ) (t : ℕ) where
     pub rows-ahead : drop i next ≡ drop i ds
     pub bytes-ahead : drop from array ≡ drop from xs
 
-  pub going-first : (n : ℕ) → Going n 0 0 ds xs
-  going-first n = record { within = omega arith; places = refl; lengths = refl; place = refl; rows = refl; bytes = refl; rows-ahead = refl; bytes-ahead = refl }
+  pub going-first : Going 0 0 ds xs
+  going-first = record { within = omega arith; places = refl; lengths = refl; place = refl; rows = refl; bytes = refl; rows-ahead = refl; bytes-ahead = refl }
 
-  module _ (n i from : ℕ) (next : List Device) (array : List ℕ) (g : Going n i from next array) (more : i < length ds) where
+  module _ (i from : ℕ) (next : List Device) (array : List ℕ) (g : Going i from next array) (more : i < length ds) where
     -- the record of chip i is still the one of the row
     pub going-record : (d : Device) → get_or next i d ≡ at ds i
     going-record d =
         let p = g.places in
         at-any next i d (omega arith) ∙ (ap (λ (m : ℕ). at next m) (sym (add-zero i)) ∙ (sym (get_or-drop i next 0 zero_record) ∙ (ap (λ (l : List Device). at l 0) g.rows-ahead ∙ (get_or-drop i ds 0 zero_record ∙ ap (λ (m : ℕ). at ds m) (add-zero i)))))
 
-    module _ (whole : length xs ≡ sum_of (take n ds)) (lt : i < n) where
+    module _ (whole : length xs ≡ sum_of ds) where
       -- and its bytes are in the array
       pub going-fits : from + bytes_of (at ds i) ≤ length array
-      going-fits = let e = sum-next ds i more in let s = sum_less (suc i) n ds (omega arith) in omega (arith, e, s, g.place, g.lengths, whole)
+      going-fits = let e = own_within ds i more in omega (arith, e, g.place, g.lengths, whole)
 
       pub going_next : (to : ℕ) → to ≡ from + bytes_of (at ds i) → {r : Checked} {ys : List ℕ} → Handed (wait_call (chip (at ds i) (take (to - from) (drop from array))) t) r ys
-          → Going n (i + 1) to (set next i r.device) (take from array ++ (ys ++ drop to array))
+          → Going (i + 1) to (set next i r.device) (take from array ++ (ys ++ drop to array))
       going_next to q {r} {ys} m =
           let fits = going-fits in
           let b : to - from ≡ bytes_of (at ds i) = omega arith in
@@ -106,21 +113,19 @@ module _ (ds : List Device) (xs : List ℕ) (t : ℕ) where
               ap (λ (m : ℕ). drop m u) (sym z) ∙ (sym (drop-drop (g - f) f u) ∙ (ap (drop (g - f)) e ∙ (drop-drop (g - f) f v ∙ ap (λ (m : ℕ). drop m v) z)))
 
   -- all have waited
-  pub going_end : (n i from : ℕ) (next : List Device) (array : List ℕ) → Going n i from next array → i ≡ n → wait_number (take n ds) (length xs) ≡ 0
-      → Passes n ds (bus_waited (take n ds) xs t) 0 next array
+  pub going_end : (i from : ℕ) (next : List Device) (array : List ℕ) → Going i from next array → i ≡ length ds → wait_number ds (length xs) ≡ 0 → AllWaited (bus_waited ds xs t) 0 next array
   unfolding bus_waited
-  going_end n i from next array g e z =
-      let whole = (wait-zero (take n ds) (length xs) z).sum in
-      let last : take from array ≡ array = take_all from array (let p = g.place ∙ ap (λ (m : ℕ). sum_of (take m ds)) e in let l = g.lengths in omega arith) in
-      rw z (record {
-        answer = refl;
-        records = sym (take-append-drop n next) ∙ ap₂ (λ (u v : List Device). u ++ v) (ap (λ (m : ℕ). take m next) (sym e) ∙ (g.rows ∙ ap (λ (m : ℕ). row_of (done m)) e)) (ap (λ (m : ℕ). drop m next) (sym e) ∙ (g.rows-ahead ∙ ap (λ (m : ℕ). drop m ds) e));
-        memory = sym last ∙ (g.bytes ∙ ap (λ (m : ℕ). array_of (done m)) e);
-      })
+  going_end i from next array g e z =
+      let whole = (wait-zero ds (length xs) z).sum in
+      let all : take i ds ≡ ds = take_all i ds (omega arith) in
+      let last : take from array ≡ array = take_all from array (let p = g.place ∙ ap sum_of all in let l = g.lengths in omega arith) in
+      let rest : take i next ≡ next = take_all i next (let p = g.places in omega arith) in
+      let ended : done i ≡ all_wait (chips_in ds xs) t = ap (λ (r : List Device). all_wait (chips_in r xs) t) all in
+      rw z (record { answer = refl; records = sym rest ∙ (g.rows ∙ ap row_of ended); memory = sym last ∙ (g.bytes ∙ ap array_of ended) })
 
   -- refused: everything as it came
-  pub wait-refused : (n : ℕ) → (wait_number (take n ds) (length xs) ≡ 0 → ⊥) → Passes n ds (bus_waited (take n ds) xs t) (wait_number (take n ds) (length xs)) ds xs
+  pub wait-refused : (q : Refusal) → number_of q ≡ wait_number ds (length xs) → {r : ℕ} → r ≡ number_of q → AllWaited (bus_waited ds xs t) r ds xs
   unfolding bus_waited
-  wait-refused n h =
-      let r : record { answer = wait_number (take n ds) (length xs); row = take n ds; array = xs } ≡ bus_waited (take n ds) xs t = other (wait_number (take n ds) (length xs)) _ _ h in
-      record { answer = ap (λ (s : Waited). s.answer) r; records = sym (take-append-drop n ds) ∙ ap (λ (s : Waited). s.row ++ drop n ds) r; memory = ap (λ (s : Waited). s.array) r }
+  wait-refused q e {r} p =
+      let f : record { answer = wait_number ds (length xs); row = ds; array = xs } ≡ bus_waited ds xs t = other (wait_number ds (length xs)) _ _ (λ z. refused-some q (e ∙ z)) in
+      record { answer = p ∙ (e ∙ ap (λ (s : Waited). s.answer) f); records = ap (λ (s : Waited). s.row) f; memory = ap (λ (s : Waited). s.array) f }

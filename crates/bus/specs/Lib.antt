@@ -2,5 +2,4 @@
 pub mod Bus
 pub mod Calls
 pub mod Found
-pub mod Lent
 pub mod Runs

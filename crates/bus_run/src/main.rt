@@ -7,75 +7,45 @@
 
 mod steps;
 
-use bus::PLACES;
-use device::Device;
 use std::io;
-use steps::{Step, Two, both, run};
-
-// Nine bench parts as delivered, with durations 3, 5, 9, 2, for both entries; chip 2 with this BP, of which there is none above 3.
-fn begin(bp: u8, same: bool) -> Two {
-    let d = Device::delivered(0, 3, 5, 9, 2);
-    let e = d.settled(false, bp);
-    let lent = [d, d, e, d, d, d, d, d, d];
-    let plain = [d, d, e, d, d, d, d, d, d];
-    Two { lent, plain, same }
-}
-
-// The largest number as the chip: 52.
-fn far(rt: &impl Print, t: Two, a: &mut [u8], b: &mut [u8]) -> io::Result<Two> {
-    let step = Step {
-        chips: 3,
-        waits: false,
-        chip: 18_446_744_073_709_551_615,
-        number: 0,
-        room: 6,
-        count: 2,
-    };
-    both(rt, t, step, a, b, b"\x05\x00")
-}
+use steps::{Asked, Step, Two};
 
 fn main(rt: HostRuntime) -> io::Result<()> {
-    let mut a = [0xFF; 12_288];
-    let mut b = [0xFF; 12_288];
-    let mut short_a = [0xFF; 12_287];
-    let mut short_b = [0xFF; 12_287];
-    let mut long_a = [0xFF; 12_289];
-    let mut long_b = [0xFF; 12_289];
+    let mut buses = Two::<12_288>::new();
     // no chip: 51, from waiting, too; nine: 51, before the 52 of chip 9; eight are not too many, but three chips' bytes too few: 53
     // chip 3 of three: 52; two bytes and room for one: 4 with eight further pulses, 5 with none
-    let t = run(
+    buses.run(
         &rt,
-        begin(0, true),
-        &mut a,
-        &mut b,
         b"00062\x05\x000w10099062\x05\x009w10087062\x05\x0033062\x05\x0030812\x05\x0030012\x05\x00",
     )?;
-    let t = far(&rt, t, &mut a, &mut b)?;
+    // the largest number as the chip: 52
+    let far = Step {
+        chips: 3,
+        asked: Asked::Transact {
+            chip: usize::MAX,
+            pulses: 0,
+            room: 6,
+        },
+    };
+    buses.both(&rt, far, b"\x05\x00")?;
     // a byte too few or too many: 53, before 4 and from waiting, too; 52 before it
-    let t = run(
-        &rt,
-        t,
-        &mut short_a,
-        &mut short_b,
-        b"30812\x05\x003w10033062\x05\x00",
-    )?;
-    let t = run(&rt, t, &mut long_a, &mut long_b, b"30812\x05\x003w100")?;
+    let mut short = Two::<12_287>::new();
+    short.run(&rt, b"30812\x05\x003w10033062\x05\x00")?;
+    let mut long = Two::<12_289>::new();
+    long.run(&rt, b"30812\x05\x003w100")?;
     // chip 2 is not sound: 6 with chip 0, before 4 and from waiting, too; before the 53 of four chips on the bytes of three; 52 and 51 before it
-    let t = run(
+    buses.begin(4);
+    buses.run(
         &rt,
-        begin(4, t.same),
-        &mut a,
-        &mut b,
         b"30812\x05\x003w10040062\x05\x0033062\x05\x0090062\x05\x00",
     )?;
     // chip 1's latch is set and no other's: chip 0 ignores a program; chip 1 starts one, and the others stay idle; its byte is there with the third tick
     // then a program of chip 0 takes 3 ticks, an erase of chip 1 takes 5: three end one, and two more the other
-    let t = run(
+    buses.begin(0);
+    buses.run(
         &rt,
-        begin(0, t.same),
-        &mut a,
-        &mut b,
         b"31061\x0630062\x05\x0031062\x05\x0032062\x05\x0030065\x02\x00\x00\x10\x0031065\x02\x00\x00\x10\x5A30062\x05\x0031062\x05\x0032062\x05\x003w2003w10031065\x03\x00\x00\x10\x0032065\x03\x00\x00\x10\x0030061\x0630065\x02\x00\x00\x10\xF031061\x0631064\xD8\x00\x00\x003w30030062\x05\x0031062\x05\x003w200",
     )?;
-    show::print_choice(&rt, t.same, b"same\n", b"differ\n")
+    let same = buses.same && short.same && long.same;
+    show::print_choice(&rt, same, b"same\n", b"differ\n")
 }

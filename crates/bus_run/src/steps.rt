@@ -1,289 +1,248 @@
 // One step at a time, run side by side through the entry that takes the row lent and through the entry by value.
 use bus::PLACES;
+use bus::lent::{transact_lent, wait_lent};
 use chip::Answer;
-use device::packing::LENGTH;
-use device::{Device, packing};
-use slices::{byte_at, least};
+use device::Device;
 use std::io;
 
 // How many bytes a response has at most.
 const LINE: usize = 6;
 
-// What is asked of how many chips: a wait of so many ticks, or a transaction with a chip, of `count` bytes and so many further pulses, with room for a response.
+// How many bytes a bench part has.
+const CHIP: usize = 4_096;
+
+// A wait of so many ticks, or a transaction with a chip and so many further pulses, with room for a response; W is high.
+#[derive(Clone, Copy)]
+pub enum Asked {
+    Wait {
+        ticks: u32,
+    },
+    Transact {
+        chip: usize,
+        pulses: u32,
+        room: usize,
+    },
+}
+
+// What is asked of how many chips.
 #[derive(Clone, Copy)]
 pub struct Step {
     pub chips: usize,
-    pub waits: bool,
-    pub chip: usize,
-    pub number: u32,
-    pub room: usize,
-    pub count: usize,
+    pub asked: Asked,
 }
 
-// What an entry answered, with the row and the response as they are then.
+// What an entry answered, and the response as it is then.
 #[derive(Clone, Copy)]
-pub struct Told {
-    pub answer: Answer,
-    pub row: [Device; PLACES],
-    pub line: [u8; LINE],
+struct Told {
+    answer: Answer,
+    line: [u8; LINE],
 }
 
-// The row of each entry, and whether all was the same so far.
-#[derive(Clone, Copy)]
-pub struct Two {
-    pub lent: [Device; PLACES],
-    pub plain: [Device; PLACES],
+// A row of chips beside their bytes.
+#[derive(Drop)]
+struct Bus<const N: usize> {
+    row: [Device; PLACES],
+    array: [u8; N],
+}
+
+// The bus of each entry, and whether all was the same so far.
+#[derive(Drop)]
+pub struct Two<const N: usize> {
+    lent: Bus<N>,
+    plain: Bus<N>,
     pub same: bool,
 }
 
-// Whether two records are the same, sound or not: their packings have all fields.
-fn same_record(d: Device, e: Device) -> bool {
-    let mut x = [0; LENGTH];
-    let mut y = [0; LENGTH];
-    packing::write(d, &mut x);
-    packing::write(e, &mut y);
-    show::same(&x, &y)
+// Nine bench parts as delivered, with durations 3, 5, 9, 2; chip 2 with this BP, of which there is none above 3.
+fn delivered(bp: u8) -> [Device; PLACES] {
+    let mut row = [Device::delivered(0, 3, 5, 9, 2); PLACES];
+    row[2] = row[2].settled(false, bp);
+    row
 }
 
-// An r for each place whose records differ, else a dash.
-fn row_marks(row: [Device; PLACES], other: [Device; PLACES]) -> [u8; PLACES] {
-    let mut marks = [0; PLACES];
-    let mut at = 0;
-    while at < PLACES {
-        let d = row[at];
-        let e = other[at];
-        marks[at] = slices::when(same_record(d, e), b'-', b'r');
-        at += 1;
+impl<const N: usize> Bus<N> {
+    // Chips as delivered, beside bytes of FF.
+    fn new() -> Self {
+        Bus {
+            row: delivered(0),
+            array: [0xFF; N],
+        }
     }
-    marks
+
+    // One step on a lent row.
+    fn lent(&mut self, step: Step, sent: &[u8]) -> Told {
+        let mut line = [0x55; LINE];
+        let mut row = self.row;
+        let chips = &mut row[..step.chips.min(PLACES)];
+        let bytes = &mut self.array;
+        let array = &mut bytes[..];
+        let answer = match step.asked {
+            Asked::Wait { ticks } => Answer::bare(wait_lent(chips, array, ticks)),
+            Asked::Transact { chip, pulses, room } => {
+                let response = &mut line[..room.min(LINE)];
+                transact_lent(chips, chip, array, sent, pulses, true, response)
+            }
+        };
+        self.row = row;
+        Told { answer, line }
+    }
+
+    // The same on a row by value.
+    fn plain(&mut self, step: Step, sent: &[u8]) -> Told {
+        let mut line = [0x55; LINE];
+        let row = self.row;
+        let bytes = &mut self.array;
+        let array = &mut bytes[..];
+        let answer = match step.asked {
+            Asked::Wait { ticks } => {
+                let passed = bus::wait(row, step.chips, array, ticks);
+                let next = passed.row;
+                self.row = next;
+                Answer::bare(passed.answer)
+            }
+            Asked::Transact { chip, pulses, room } => {
+                let response = &mut line[..room.min(LINE)];
+                let turned = bus::transact(
+                    row, step.chips, chip, array, sent, pulses, true, response,
+                );
+                let next = turned.row;
+                self.row = next;
+                turned.answer
+            }
+        };
+        Told { answer, line }
+    }
 }
 
-// Prints an a for each chip whose bytes differ, else a dash.
-fn print_chips(rt: &impl Print, a: &[u8], b: &[u8]) -> io::Result<()> {
-    let n = least(a.len(), b.len());
-    let mut from = 0;
-    while from < n {
-        let to = from + least(4096, n - from);
-        show::print_choice(rt, show::same(&a[from..to], &b[from..to]), b"-", b"a")?;
-        from = to;
+impl Step {
+    // The room that is printed of a response.
+    fn room(self) -> usize {
+        match self.asked {
+            Asked::Wait { .. } => 0,
+            Asked::Transact { room, .. } => room,
+        }
+    }
+
+    // The step that five characters say: how many chips, w or the chip, the ticks or the further pulses, the room for a response, how many bytes are sent.
+    fn read(s: &[u8]) -> Self {
+        let chip = digit(s, 1);
+        let number = digit(s, 2);
+        let room = digit(s, 3);
+        let asked = if slices::byte_at(s, 1) == b'w' {
+            Asked::Wait {
+                ticks: u32::from(number),
+            }
+        } else {
+            Asked::Transact {
+                chip: usize::from(chip),
+                pulses: u32::from(number),
+                room: usize::from(room),
+            }
+        };
+        Step {
+            chips: usize::from(digit(s, 0)),
+            asked,
+        }
+    }
+
+    // Prints what is asked.
+    fn print(self, rt: &impl Print, sent: &[u8]) -> io::Result<()> {
+        match self.asked {
+            Asked::Wait { ticks } => print!(rt; "wait {ticks}")?,
+            Asked::Transact { chip, pulses, .. } => {
+                show::print_bytes(rt, slices::front(sent, LINE))?;
+                show::print_choice(rt, sent.len() <= LINE, b" ", b".. ")?;
+                print!(rt; "+{pulses} to chip {chip}")?;
+            }
+        }
+        print!(rt; " of {}:", self.chips)
+    }
+}
+
+impl Told {
+    // Whether another entry answered the same.
+    fn same(self, other: Self) -> bool {
+        let (x, y) = (self.answer, other.answer);
+        x.number == y.number
+            && x.first == y.first
+            && x.count == y.count
+            && x.missing == y.missing
+            && self.line == other.line
+    }
+
+    // Prints the answer, and as much of the response as there is room for.
+    fn print(self, rt: &impl Print, room: usize) -> io::Result<()> {
+        let x = self.answer;
+        print!(rt; " {} {} {} {} ", x.number, x.first, x.count, x.missing)?;
+        show::print_bytes(rt, slices::front(&self.line, room))
+    }
+}
+
+// Prints an r for each place whose records differ, else a dash.
+fn print_row(rt: &impl Print, row: &[Device], other: &[Device]) -> io::Result<()> {
+    for (d, e) in row.iter().zip(other) {
+        show::print_choice(rt, d == e, b"-", b"r")?;
     }
     Ok(())
 }
 
-// Prints what is asked.
-fn print_step(rt: &impl Print, step: Step, sent: &[u8]) -> io::Result<()> {
-    if step.waits {
-        rt.write_all(b"wait")?;
-        show::print_number(rt, step.number as u64)?;
-    } else {
-        show::print_bytes(rt, slices::front(sent, LINE))?;
-        show::print_choice(rt, sent.len() <= LINE, b" +", b".. +")?;
-        print!(rt; "{}", step.number)?;
-        rt.write_all(b" to chip")?;
-        show::print_number(rt, step.chip as u64)?;
+// Prints an a for each chip whose bytes differ, else a dash.
+fn print_chips(rt: &impl Print, array: &[u8], other: &[u8]) -> io::Result<()> {
+    for (a, b) in array.chunks(CHIP).zip(other.chunks(CHIP)) {
+        show::print_choice(rt, a == b, b"-", b"a")?;
     }
-    rt.write_all(b" of")?;
-    show::print_number(rt, step.chips as u64)?;
-    rt.write_all(b":")
-}
-
-// Prints an answer.
-fn print_answer(rt: &impl Print, x: Answer) -> io::Result<()> {
-    show::print_number(rt, x.number as u64)?;
-    show::print_number(rt, x.first as u64)?;
-    show::print_number(rt, x.count as u64)?;
-    show::print_number(rt, x.missing as u64)?;
-    rt.write_all(b" ")
-}
-
-// Prints what the first entry did, and ends the line: `row` and `b` are the row and the array as they were.
-fn print_told(
-    rt: &impl Print,
-    room: usize,
-    row: [Device; PLACES],
-    x: Told,
-    a: &[u8],
-    b: &[u8],
-) -> io::Result<()> {
-    let answer = x.answer;
-    let line = x.line;
-    let next = x.row;
-    let marks = row_marks(row, next);
-    print_answer(rt, answer)?;
-    show::print_bytes(rt, slices::front(&line, room))?;
-    rt.write_all(b" ")?;
-    rt.write_all(&marks)?;
-    rt.write_all(b" ")?;
-    print_chips(rt, a, b)?;
-    rt.write_all(b"\n")
-}
-
-// One step on a lent row; W is high.
-fn lent(row: [Device; PLACES], step: Step, a: &mut [u8], sent: &[u8]) -> Told {
-    let mut line = [0x55; LINE];
-    let n = step.chips;
-    if step.waits {
-        let y = bus::lent::wait_via(row, n, a, step.number);
-        let next = y.row;
-        let answer = Answer::bare(y.answer);
-        return Told {
-            answer,
-            row: next,
-            line,
-        };
-    }
-    let room = step.room;
-    let start = 0;
-    let end = least(room, LINE);
-    let x = bus::lent::transact_via(
-        row,
-        n,
-        step.chip,
-        a,
-        sent,
-        step.number,
-        true,
-        &mut line[start..end],
-    );
-    let answer = x.answer;
-    let next = x.row;
-    Told {
-        answer,
-        row: next,
-        line,
-    }
-}
-
-// The same on a row by value.
-fn plain(row: [Device; PLACES], step: Step, b: &mut [u8], sent: &[u8]) -> Told {
-    let mut line = [0x55; LINE];
-    let n = step.chips;
-    if step.waits {
-        let y = bus::wait(row, n, b, step.number);
-        let next = y.row;
-        let answer = Answer::bare(y.answer);
-        return Told {
-            answer,
-            row: next,
-            line,
-        };
-    }
-    let room = step.room;
-    let start = 0;
-    let end = least(room, LINE);
-    let x = bus::transact(
-        row,
-        n,
-        step.chip,
-        b,
-        sent,
-        step.number,
-        true,
-        &mut line[start..end],
-    );
-    let answer = x.answer;
-    let next = x.row;
-    Told {
-        answer,
-        row: next,
-        line,
-    }
-}
-
-// One step on a lent row, printed. `b` is the array as it was before.
-fn printed(
-    rt: &impl Print,
-    row: [Device; PLACES],
-    step: Step,
-    a: &mut [u8],
-    b: &[u8],
-    sent: &[u8],
-) -> io::Result<Told> {
-    let x = lent(row, step, a, sent);
-    print_step(rt, step, sent)?;
-    print_told(rt, step.room, row, x, a, b)?;
-    Ok(x)
-}
-
-// Whether two answers are the same.
-fn same_answer(x: Answer, y: Answer) -> bool {
-    let driven = (x.first == y.first) & (x.count == y.count);
-    (x.number == y.number) & driven & (x.missing == y.missing)
-}
-
-// Whether two entries answered and left the same.
-fn same_told(x: Told, y: Told) -> bool {
-    let answer = x.answer;
-    let other = y.answer;
-    let row = x.row;
-    let places = y.row;
-    let line = x.line;
-    let again = y.line;
-    let marks = row_marks(row, places);
-    same_answer(answer, other) & show::all_are(&marks, 0, b'-') & show::same(&line, &again)
-}
-
-// One step through both entries. Until the second entry runs, its array is what the first one's was before.
-pub(crate) fn both(
-    rt: &impl Print,
-    t: Two,
-    step: Step,
-    a: &mut [u8],
-    b: &mut [u8],
-    sent: &[u8],
-) -> io::Result<Two> {
-    let row = t.lent;
-    let other = t.plain;
-    let x = printed(rt, row, step, a, b, sent)?;
-    let y = plain(other, step, b, sent);
-    let same = same_told(x, y) & show::same(a, b);
-    let next = x.row;
-    let last = y.row;
-    Ok(Two {
-        lent: next,
-        plain: last,
-        same: t.same & same,
-    })
+    Ok(())
 }
 
 // The digit at a place.
 fn digit(s: &[u8], at: usize) -> u8 {
-    byte_at(s, at) % 16
+    slices::byte_at(s, at) % 16
 }
 
-// The step that a script begins with: five characters, how many chips, w or the chip, the ticks or the further pulses, the room for a response, how many bytes are sent.
-fn step_in(s: &[u8]) -> Step {
-    let chips = digit(s, 0);
-    let chip = digit(s, 1);
-    let number = digit(s, 2);
-    let room = digit(s, 3);
-    let count = digit(s, 4);
-    Step {
-        chips: chips as usize,
-        waits: byte_at(s, 1) == b'w',
-        chip: chip as usize,
-        number: number as u32,
-        room: room as usize,
-        count: count as usize,
+impl<const N: usize> Two<N> {
+    // Two buses as delivered.
+    pub fn new() -> Self {
+        Two {
+            lent: Bus::new(),
+            plain: Bus::new(),
+            same: true,
+        }
     }
-}
 
-// The steps of a script, each followed by the bytes sent.
-pub(crate) fn run(
-    rt: &impl Print,
-    start: Two,
-    a: &mut [u8],
-    b: &mut [u8],
-    script: &[u8],
-) -> io::Result<Two> {
-    let mut t = start;
-    let mut at = 0;
-    while at < script.len() {
-        let step = step_in(&script[at..]);
-        let from = at + least(5, script.len() - at);
-        let to = from + least(step.count, script.len() - from);
-        t = both(rt, t, step, a, b, &script[from..to])?;
-        at = to;
+    // The chips are as delivered again, chip 2 with this BP; the bytes stay.
+    pub fn begin(&mut self, bp: u8) {
+        self.lent.row = delivered(bp);
+        self.plain.row = delivered(bp);
     }
-    Ok(t)
+
+    // One step through both entries; it is printed as the first one does it. Until the second one runs, its array is what the first one's was before.
+    pub fn both(&mut self, rt: &impl Print, step: Step, sent: &[u8]) -> io::Result<()> {
+        let row = self.lent.row;
+        let told = self.lent.lent(step, sent);
+        step.print(rt, sent)?;
+        told.print(rt, step.room())?;
+        rt.write_all(b" ")?;
+        print_row(rt, &row, &self.lent.row)?;
+        rt.write_all(b" ")?;
+        print_chips(rt, &self.lent.array, &self.plain.array)?;
+        rt.write_all(b"\n")?;
+        let again = self.plain.plain(step, sent);
+        self.same &= told.same(again)
+            && self.lent.row == self.plain.row
+            && self.lent.array == self.plain.array;
+        Ok(())
+    }
+
+    // The steps of a script, each followed by the bytes sent.
+    pub fn run(&mut self, rt: &impl Print, script: &[u8]) -> io::Result<()> {
+        let mut rest = script;
+        while !rest.is_empty() {
+            let (head, tail) = rest.split_at(rest.len().min(5));
+            let count = usize::from(digit(head, 4));
+            let (sent, next) = tail.split_at(tail.len().min(count));
+            self.both(rt, Step::read(head), sent)?;
+            rest = next;
+        }
+        Ok(())
+    }
 }

@@ -1,7 +1,7 @@
 -- A sound record is read back from its packing, and what is read back packs to the same bytes.
 -- Assumes nothing.
 use mathlib.Core.Path.{◌≡◌, refl, sym, ap, ◌∙◌}
-use mathlib.Core.Bool.{Bool, true, false, cond, ◌&&◌}
+use mathlib.Core.Bool.{Bool, true, false, ◌&&◌}
 use mathlib.Core.List.{List, ◌++◌}
 use Prim.Native.Nat.{ℕ, ◌≤◌, ◌<◌}
 use native.Mathlib.Omega.{arith}
@@ -23,7 +23,7 @@ use Rattle.device.specs.declared.Device.{Device}
 use Rattle.device.specs.Cycles.{both_same, named_sound}
 use Rattle.device.specs.Device.{sound, mode_sound, ranged_of, latch_at, is_busy}
 use Rattle.device.specs.Packing.{packed_length, front_length, named_place, locks_place, bit, mode_number, ticks_of, mode_of, kind_number, kind_of, front_of, pack_of, fields_of, formed, unpack_answer, unpack_of}
-use Rattle.device.proofs.Calls.{length_front, length-pack, unpacked-good}
+use Rattle.device.proofs.Calls.{length_front, length-pack, answered, unpacked-good}
 use Rattle.device.proofs.Sound.{Sound, sound-has, ranged-most, cycle_has, slots-long, locks-long}
 
 -- a bit
@@ -130,11 +130,6 @@ pub record Opened (b : List ℕ) : Type 0 where
   pub well : formed b ≡ true
   pub is-sound : sound (fields_of b) ≡ true
   pub fields : (unpack_of b).device ≡ fields_of b
-
-answered : (t s : Bool) → ◌≡◌ {A = ℕ} (cond t (cond s 0 6) 8) 0 → (t ≡ true) × (s ≡ true)
-answered true true h = (refl, refl)
-answered true false h = let z : ◌≡◌ {A = ℕ} 6 0 = h in absurd (omega arith)
-answered false s h = let z : ◌≡◌ {A = ℕ} 8 0 = h in absurd (omega arith)
 
 pub opened : (b : List ℕ) → (unpack_of b).answer ≡ 0 → Opened b
 unfolding unpack_of unpack_answer

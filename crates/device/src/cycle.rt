@@ -1,22 +1,54 @@
 // Cycles: what is remembered of one, what it does to the array, whole or cut, and how many ticks it takes.
 ghost use Rattle.std.specs.Prelude.{◌≡◌};
 ghost use Rattle.slices.specs.Changed.{map_at};
+ghost use Rattle.device.specs.Packing.{kind_number, KindRead};
 ghost use Rattle.device.specs.Cycles.{uses_of, no_cycle, page_cycle, write_cycle, erase_cycle, all_cycle, settings_cycle, slots_sound, named_sound, cycle_sound, touched, cut, duration_of};
 
 use crate::Device;
 use parts::Figures;
+use refusals::Refusal;
 
-// What a cycle does: nothing where there is none; program a page, erase a sector, erase all, write the settings; on an M25PE part also write a page, erase a page, erase a subsector.
+// What a cycle does, with the kind byte that stands for it in a packing: nothing where there is none; program a page, erase a sector, erase all, write the settings; on an M25PE part also write a page, erase a page, erase a subsector.
 #[derive(Clone, Copy, Debug, PartialEq, Eq)]
 pub enum Kind {
-    Idle,
-    Page,
-    Sector,
-    All,
-    Settings,
-    PageWrite,
-    PageErase,
-    Subsector,
+    Idle = 0,
+    Page = 1,
+    Sector = 2,
+    All = 3,
+    Settings = 4,
+    PageWrite = 5,
+    PageErase = 6,
+    Subsector = 7,
+}
+
+// The kind byte of a packing.
+impl From<Kind> for u8 {
+    ghost from_gives = { λ kind number. number ≡ kind_number kind };
+
+    fn from(kind: Kind) -> u8 {
+        kind as u8
+    }
+}
+
+// The kind of a kind byte; a record with another byte there is not sound.
+impl TryFrom<u8> for Kind {
+    type Error = Refusal;
+
+    ghost try_from_gives = { KindRead };
+
+    fn try_from(number: u8) -> Result<Kind, Refusal> {
+        match number {
+            0 => Ok(Kind::Idle),
+            1 => Ok(Kind::Page),
+            2 => Ok(Kind::Sector),
+            3 => Ok(Kind::All),
+            4 => Ok(Kind::Settings),
+            5 => Ok(Kind::PageWrite),
+            6 => Ok(Kind::PageErase),
+            7 => Ok(Kind::Subsector),
+            _ => Err(Refusal::NotSound),
+        }
+    }
 }
 
 // Whether a kind is a cycle, what of a remembered cycle it uses, and whether it is of M25PE parts alone.

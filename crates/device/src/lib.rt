@@ -2,6 +2,7 @@
 #![tactic(auto)]
 
 ghost use Rattle.std.specs.Prelude.{◌≡◌};
+ghost use Rattle.refusals.specs.Numbers.{number_of};
 ghost use Rattle.device.specs.Device.{latch_at, moded, latched, settled, remembering, locked, running, started, ended, zero_record, delivered, ranged_of, mode_sound, sound, is_busy, is_deep, status_byte};
 
 // The cycle that is remembered, what it does, and how long it takes.
@@ -19,6 +20,7 @@ pub mod time;
 use cycle::Cycle;
 use locks::{REGISTERS, locks_sound};
 use parts::Figures;
+use refusals::Refusal;
 
 // What the chip is doing: nothing, a cycle with so many ticks left, or deep power-down.
 #[derive(Clone, Copy, Debug, PartialEq, Eq)]
@@ -44,11 +46,23 @@ pub struct Device {
     pub locks: [u8; REGISTERS],
 }
 
-// The answer of a call that checks its record, and the record handed back.
+// The answer of a call that checks its record, by its number as the C calls hand it on, and the record handed back.
 #[derive(Clone, Copy, Debug, PartialEq, Eq)]
 pub struct Checked {
     pub answer: u8,
     pub device: Device,
+}
+
+impl Checked {
+    // A refused call, with the record that it hands back.
+    pub(crate) fn refused(refusal: Refusal, device: Device) -> Self
+        ensures { result ≡ record { answer = number_of refusal; device = device } }
+    {
+        Checked {
+            answer: refusal.into(),
+            device,
+        }
+    }
 }
 
 // The latch of a cycle with `t` ticks left.

@@ -1,12 +1,14 @@
 // The record packed in bytes, and read back.
-ghost use Rattle.std.specs.Prelude.{◌≡◌, ◌++◌, length, take, drop};
+ghost use Rattle.std.specs.Prelude.{◌≡◌, ◌&&◌, ◌++◌, take, drop, IfOk};
+ghost use Rattle.refusals.specs.Numbers.{answer_of};
 ghost use Rattle.slices.specs.Bytes.{same_bytes, word};
 ghost use Rattle.slices.specs.Changed.{map_at, stored};
-ghost use Rattle.device.specs.Packing.{packed_length, front_length, named_place, locks_place, mode_number, ticks_of, mode_of, kind_number, kind_of, head_of, cycle_head, front_of, pack_of, cycle_at, fields_of, Packed, unpack_of};
+ghost use Rattle.device.specs.Packing.{front_length, named_place, locks_place, mode_number, ticks_of, mode_of, head_of, cycle_head, front_of, pack_of, cycle_at, fields_of, pack_answer, Packed, unpack_answer, unpack_of};
 
 use crate::cycle::{Cycle, Kind};
 use crate::locks::REGISTERS;
 use crate::{Checked, Device, Mode};
+use refusals::Refusal;
 
 // How many bytes a packing has.
 pub const LENGTH: usize = 304;
@@ -35,11 +37,7 @@ fn mode_number(mode: Mode) -> u8
 fn ticks_of(mode: Mode) -> u32
     ensures { result ≡ ticks_of mode }
 {
-    match mode {
-        Mode::Standby => 0,
-        Mode::Busy(left) => left,
-        Mode::Deep => 0,
-    }
+    if let Mode::Busy(left) = mode { left } else { 0 }
 }
 
 // The mode of a mode byte and of ticks left.
@@ -53,49 +51,16 @@ fn mode_of(number: u8, ticks: u32) -> Mode
     }
 }
 
-// The kind byte.
-fn kind_number(kind: Kind) -> u8
-    ensures { result ≡ kind_number kind }
-{
-    match kind {
-        Kind::Idle => 0,
-        Kind::Page => 1,
-        Kind::Sector => 2,
-        Kind::All => 3,
-        Kind::Settings => 4,
-        Kind::PageWrite => 5,
-        Kind::PageErase => 6,
-        Kind::Subsector => 7,
-    }
-}
-
-// The kind of a kind byte.
-fn kind_of(number: u8) -> Kind
-    ensures { result ≡ kind_of number }
-{
-    match number {
-        1 => Kind::Page,
-        2 => Kind::Sector,
-        3 => Kind::All,
-        4 => Kind::Settings,
-        5 => Kind::PageWrite,
-        6 => Kind::PageErase,
-        7 => Kind::Subsector,
-        _ => Kind::Idle,
-    }
-}
-
 // The first eight bytes: part, BP, SRWD, latch, mode, three zero bytes.
 fn head_bytes(d: Device) -> [u8; 8]
     ensures { result ≡ head_of d }
 {
-    let mode = d.mode;
     [
         d.part,
         d.bp,
-        slices::when(d.srwd, 1, 0),
-        slices::when(d.latch, 1, 0),
-        mode_number(mode),
+        u8::from(d.srwd),
+        u8::from(d.latch),
+        mode_number(d.mode),
         0,
         0,
         0,
@@ -106,175 +71,147 @@ fn head_bytes(d: Device) -> [u8; 8]
 fn cycle_bytes(cycle: Cycle) -> [u8; 4]
     ensures { result ≡ cycle_head cycle }
 {
-    let kind = cycle.kind;
-    [
-        kind_number(kind),
-        cycle.bp,
-        slices::when(cycle.srwd, 1, 0),
-        0,
-    ]
+    [u8::from(cycle.kind), cycle.bp, u8::from(cycle.srwd), 0]
 }
 
 // What comes before the slots written to the front of `out`, part by part.
 fn write_front(d: Device, out: &mut [u8])
     ensures { out.new ≡ map_at (stored 0 (front_of d)) out.old }
 {
-    let mode = d.mode;
-    let cycle = d.cycle;
-    let head = head_bytes(d);
-    let middle = cycle_bytes(cycle);
-    slices::store(out, 0, &head);
-    slices::store_word(out, 8, ticks_of(mode));
-    slices::store_word(out, 12, d.program);
-    slices::store_word(out, 16, d.sector_erase);
-    slices::store_word(out, 20, d.bulk_erase);
-    slices::store_word(out, 24, d.write_status);
-    slices::store(out, 28, &middle);
-    slices::store_word(out, 32, cycle.address);
+    slices::store(out, 0, &head_bytes(d));
+    slices::store(out, 8, &ticks_of(d.mode).to_le_bytes());
+    slices::store(out, 12, &d.program.to_le_bytes());
+    slices::store(out, 16, &d.sector_erase.to_le_bytes());
+    slices::store(out, 20, &d.bulk_erase.to_le_bytes());
+    slices::store(out, 24, &d.write_status.to_le_bytes());
+    slices::store(out, 28, &cycle_bytes(d.cycle));
+    slices::store(out, 32, &d.cycle.address.to_le_bytes());
 }
 
 // What comes from the slots on written to its place in `out`: the slots, the number of bytes named, the lock registers.
-fn write_rest(slots: [u8; 256], named: u32, locks: [u8; REGISTERS], out: &mut [u8])
-    ensures { out.new ≡ map_at (stored front_length (slots ++ (word named ++ locks))) out.old }
+fn write_rest(d: Device, out: &mut [u8])
+    ensures { out.new ≡ map_at (stored front_length (d.cycle.slots ++ (word d.cycle.named ++ d.locks))) out.old }
 {
-    slices::store(out, FRONT, &slots);
-    slices::store_word(out, NAMED, named);
-    slices::store(out, LOCKS, &locks);
+    slices::store(out, FRONT, &d.cycle.slots);
+    slices::store(out, NAMED, &d.cycle.named.to_le_bytes());
+    slices::store(out, LOCKS, &d.locks);
 }
 
 // The packing written to the front of `out`, whatever the record: what comes before the slots, then the rest.
 pub fn write(d: Device, out: &mut [u8])
     ensures { out.new ≡ map_at (stored 0 (pack_of d)) out.old }
 {
-    let cycle = d.cycle;
-    let slots = cycle.slots;
-    let locks = d.locks;
     write_front(d, out);
-    write_rest(slots, cycle.named, locks, out);
+    write_rest(d, out);
 }
 
 // The slots of a packing.
-fn slots_in(b: &[u8]) -> [u8; 256]
-    requires { length b.now ≡ packed_length }
+fn slots_in(b: &[u8; LENGTH]) -> [u8; 256]
     ensures { result ≡ take 256 (drop front_length b.now) }
 {
     let mut slots = [0; 256];
-    slices::store(&mut slots, 0, &b[FRONT..NAMED]);
+    slots.copy_from_slice(&b[FRONT..NAMED]);
     slots
 }
 
 // The lock registers of a packing.
-fn locks_in(b: &[u8]) -> [u8; REGISTERS]
-    requires { length b.now ≡ packed_length }
+fn locks_in(b: &[u8; LENGTH]) -> [u8; REGISTERS]
     ensures { result ≡ drop locks_place b.now }
 {
     let mut locks = [0; REGISTERS];
-    slices::store(&mut locks, 0, &b[LOCKS..]);
+    locks.copy_from_slice(&b[LOCKS..]);
     locks
 }
 
-// The cycle whose fields stand in the bytes, whether they are a packing or not.
-fn cycle_in(b: &[u8]) -> Cycle
-    requires { length b.now ≡ packed_length }
+// The cycle whose fields stand in the bytes, whether they are a packing or not. A byte that is no kind's is read as none.
+fn cycle_in(b: &[u8; LENGTH]) -> Cycle
     ensures { result ≡ cycle_at b.now }
 {
-    let kind = kind_of(slices::byte_at(b, 28));
-    let address = slices::word_at(b, 32);
-    let slots = slots_in(b);
     Cycle {
-        kind,
-        address,
-        slots,
-        bp: slices::byte_at(b, 29),
-        srwd: slices::byte_at(b, 30) == 1,
+        kind: Kind::try_from(b[28]).unwrap_or(Kind::Idle),
+        address: slices::word_at(b, 32),
+        slots: slots_in(b),
+        bp: b[29],
+        srwd: b[30] == 1,
         named: slices::word_at(b, NAMED),
     }
 }
 
 // The record whose fields stand in the bytes, whether they are a packing or not.
-fn fields(b: &[u8]) -> Device
-    requires { length b.now ≡ packed_length }
+fn fields(b: &[u8; LENGTH]) -> Device
     ensures { result ≡ fields_of b.now }
 {
-    let mode = mode_of(slices::byte_at(b, 4), slices::word_at(b, 8));
-    let program = slices::word_at(b, 12);
-    let sector_erase = slices::word_at(b, 16);
-    let bulk_erase = slices::word_at(b, 20);
-    let write_status = slices::word_at(b, 24);
-    let cycle = cycle_in(b);
-    let locks = locks_in(b);
     Device {
-        part: slices::byte_at(b, 0),
-        bp: slices::byte_at(b, 1),
-        srwd: slices::byte_at(b, 2) == 1,
-        latch: slices::byte_at(b, 3) == 1,
-        mode,
-        program,
-        sector_erase,
-        bulk_erase,
-        write_status,
-        cycle,
-        locks,
+        part: b[0],
+        bp: b[1],
+        srwd: b[2] == 1,
+        latch: b[3] == 1,
+        mode: mode_of(b[4], slices::word_at(b, 8)),
+        program: slices::word_at(b, 12),
+        sector_erase: slices::word_at(b, 16),
+        bulk_erase: slices::word_at(b, 20),
+        write_status: slices::word_at(b, 24),
+        cycle: cycle_in(b),
+        locks: locks_in(b),
     }
 }
 
-// Whether bytes begin as the packing of a record does, up to the slots.
-fn begins_as(d: Device, b: &[u8]) -> bool
-    ensures { result ≡ same_bytes (take front_length b.now) (front_of d) }
+// Whether bytes agree with the packing of a record, but for its slots and lock registers.
+fn agrees(d: Device, b: &[u8; LENGTH]) -> bool
+    ensures { result ≡ (same_bytes (take front_length b.now) (front_of d) && same_bytes (take 4 (drop named_place b.now)) (word d.cycle.named)) }
 {
-    let mut again = [0; FRONT];
-    write_front(d, &mut again);
-    slices::same(slices::front(b, FRONT), &again)
+    let mut front = [0; FRONT];
+    write_front(d, &mut front);
+    b[..FRONT] == front[..] && b[NAMED..LOCKS] == d.cycle.named.to_le_bytes()[..]
 }
 
-// Whether a number's four bytes stand where the number of bytes named does.
-fn named_as(named: u32, b: &[u8]) -> bool
-    requires { length b.now ≡ packed_length }
-    ensures { result ≡ same_bytes (take 4 (drop named_place b.now)) (word named) }
+// Whether a record can be packed into so many bytes: 8 where they are not `LENGTH`, 6 where the record is not sound.
+fn packs(d: Device, room: usize) -> Result<(), Refusal>
+    ensures { answer_of result ≡ pack_answer d room }
 {
-    let mut again = [0; 4];
-    let start = 0;
-    slices::store_word(&mut again, start, named);
-    slices::same(&b[NAMED..LOCKS], &again)
+    if room != LENGTH {
+        return Err(Refusal::PackedLength);
+    }
+    if !d.sound() {
+        return Err(Refusal::NotSound);
+    }
+    Ok(())
 }
 
 // Packs a record: 8 where `out` is not of `LENGTH` bytes, 6 where the record is not sound, with nothing written; else 0.
 pub fn pack(d: Device, out: &mut [u8]) -> u8
     ensures { Packed d out.old result out.new }
 {
-    if out.len() != LENGTH {
-        return 8;
+    // by its number: the C calls hand it on
+    if let Err(refusal) = packs(d, out.len()) {
+        return refusal.into();
     }
-    if d.sound() {
-        write(d, out);
-        return 0;
+    write(d, out);
+    0
+}
+
+// The record that bytes are the packing of: 8 where they are not `LENGTH`, 6 where they are not the packing of a sound record.
+fn read(packed: &[u8]) -> Result<Device, Refusal>
+    ensures answer { answer_of result ≡ unpack_answer packed.now }
+    ensures device { IfOk result (λ d. d ≡ fields_of packed.now) }
+{
+    let Ok(b) = <&[u8; LENGTH]>::try_from(packed) else {
+        return Err(Refusal::PackedLength);
+    };
+    let d = fields(b);
+    if agrees(d, b) && d.sound() {
+        Ok(d)
+    } else {
+        Err(Refusal::NotSound)
     }
-    6
 }
 
 // Unpacks a record: 8 where there are not `LENGTH` bytes, 6 where they are not the packing of a sound record, with the all-zero record; else 0.
 pub fn unpack(packed: &[u8]) -> Checked
     ensures { result ≡ unpack_of packed.now }
 {
-    if packed.len() != LENGTH {
-        return Checked {
-            answer: 8,
-            device: Device::zero(),
-        };
-    }
-    let d = fields(packed);
-    let cycle = d.cycle;
-    let formed = begins_as(d, packed) & named_as(cycle.named, packed);
-    let sound = d.sound();
-    if formed & sound {
-        Checked {
-            answer: 0,
-            device: d,
-        }
-    } else {
-        Checked {
-            answer: 6,
-            device: Device::zero(),
-        }
+    match read(packed) {
+        Ok(device) => Checked { answer: 0, device },
+        Err(refusal) => Checked::refused(refusal, Device::zero()),
     }
 }

@@ -1,37 +1,30 @@
 -- Laws of one block: what the code of a block comes to, and when a block is good.
 -- Assumes nothing.
-use Rattle.std.proofs.Common.{◌≡◌, ℕ, ◌+◌, ◌-◌, ◌*◌, ◌/◌, ◌%◌, ◌<◌, ◌≤◌, min, Bool, true, false, cond, eqb, leb, List, [], ◌++◌, length, take, drop, sym, refl, ap, ◌∙◌, arith, lit≤, length-append, length-drop, drop_of_length-le, take_all, eq-eqb, ne_eqb, eqb-true, leb-false, leb-true}
+use Rattle.std.proofs.Common.{◌≡◌, ℕ, ◌+◌, ◌-◌, ◌*◌, ◌/◌, ◌%◌, ◌<◌, ◌≤◌, Bool, true, false, cond, eqb, List, [], ◌∷◌, ◌++◌, length, take, drop, sym, refl, ap, ◌∙◌, arith, lit≤, length-append, length-drop, take_all, eq-eqb, ne_eqb, eqb-true}
 use borrow.Author.Tests.{eqb-false}
 use lib.ListN.{length-replicate}
 use Rattle.slices.specs.Changed.{map_at, stored}
-use Rattle.slices.specs.Bytes.{word_at}
+use Rattle.slices.specs.Bytes.{word, word_at}
 use Rattle.slices.proofs.Choices.{cond_ind}
 use Rattle.slices.proofs.Maps.{length-map}
 use Rattle.slices.proofs.Stores.{store-next, stored-whole}
 use Rattle.slices.proofs.Words.{word_number}
 use Rattle.image.specs.declared.Sums.{Sums}
 use Rattle.image.specs.Sums.{sums_of}
-use Rattle.image.specs.Blocks.{head_of, filled_up, block_of, sums_in, same_sums, reason_of, salvaged_of}
+use Rattle.image.specs.Blocks.{half, head_of, filled_up, block_of, sums_in, same_sums, reason_of, salvaged_of}
 
--- from at most the end on is from there on
-drop-least : (n s : ℕ) (xs : List ℕ) → s ≡ min n (length xs) → drop s xs ≡ drop n xs
-drop-least n s xs p = go (leb n (length xs)) refl
-  where
-    go : (b : Bool) → leb n (length xs) ≡ b → drop s xs ≡ drop n xs
-    go true e = let k = leb-true n (length xs) e in let z : s ≡ n = omega arith in ap (λ (m : ℕ). drop m xs) z
-    go false e =
-        let k = leb-false n (length xs) e in
-        drop_of_length-le xs {i = s} (omega arith) ∙ sym (drop_of_length-le xs {i = n} (omega arith))
+-- the bytes behind the head
+pub behind : (n : ℕ) (b : List ℕ) → n ≡ length b → take (n - 8) (drop 8 b) ≡ drop 8 b
+behind n b e = take_all (n - 8) (drop 8 b) (rw length-drop (omega arith))
 
--- the part `b[from..]`, with from the smaller of 8 and the length
-pub from-eight : (from : ℕ) (b : List ℕ) → from ≡ min 8 (length b) → take (length b - from) (drop from b) ≡ drop 8 b
-from-eight from b r = take_all (length b - from) (drop from b) (rw length-drop (omega arith)) ∙ drop-least 8 from b r
-
--- what `reason` computes
-pub reason-is : (place number from x : ℕ) (found right : Sums) (b : List ℕ) → number ≡ word_at b 0 → found ≡ sums_in b → from ≡ min 8 (length b)
-    → right ≡ sums_of place (take (length b - from) (drop from b)) → x ≡ cond (same_sums found right) 0 2 → cond (eqb number place) x 1 ≡ reason_of place b
+-- why a block is bad: its number, or a sum; or it is good
+pub bad_number : (place : ℕ) (b : List ℕ) → (word_at b 0 ≡ place → ⊥) → 1 ≡ reason_of place b
 unfolding reason_of
-reason-is place number from x found right b p q r s t = rw (t, s, from-eight from b r, q, p)
+bad_number place b n = rw (ne_eqb _ _ n)
+
+pub by_sums : (place : ℕ) (b : List ℕ) (same : Bool) → word_at b 0 ≡ place → same ≡ same_sums (sums_in b) (sums_of place (drop 8 b)) → cond same 0 2 ≡ reason_of place b
+unfolding reason_of
+by_sums place b same e f = rw (eq-eqb _ _ e, f)
 
 -- a reason is 0, 1 or 2
 pub reason-most : (place : ℕ) (b : List ℕ) → reason_of place b ≤ 2
@@ -48,12 +41,19 @@ unfolding block_of
 length-block number part = rw length-append (rw (length-filled part))
 
 -- what `write_block` comes to
-pub written_is : (number : ℕ) (part b bytes front : List ℕ) (sums : Sums) {first last : List ℕ} → length b ≡ 512 → bytes ≡ filled_up part → sums ≡ sums_of number bytes → front ≡ head_of number sums
-    → first ≡ map_at (stored 0 front) b → last ≡ map_at (stored 8 bytes) first → last ≡ block_of number (filled_up part)
+pub written_is : (number : ℕ) (part b bytes : List ℕ) (sums : Sums) {numbered one two last : List ℕ} → length b ≡ 512 → bytes ≡ filled_up part → sums ≡ sums_of number bytes
+    → numbered ≡ map_at (stored 0 (word number)) b → one ≡ map_at (stored 4 (half sums.first)) numbered → two ≡ map_at (stored 6 (half sums.second)) one → last ≡ map_at (stored 8 bytes) two
+    → last ≡ block_of number (filled_up part)
 unfolding block_of
-written_is number part b bytes front sums l p q r s t =
-    let e : block_of number (filled_up part) ≡ front ++ bytes = sym (rw (r, q, p)) in
-    store-next 8 front bytes b s (ap length r) t ∙ stored-whole (front ++ bytes) b (ap length (sym e) ∙ length-block number part ∙ sym l) ∙ sym e
+written_is number part b bytes sums l p q n s t u =
+    let e : block_of number (filled_up part) ≡ head_of number sums ++ bytes = sym (rw (q, p)) in
+    let first = store-next 4 (word number) (half sums.first) b n refl s in
+    let both = store-next 6 (word number ++ half sums.first) (half sums.second) b first refl t in
+    store-next 8 (head_of number sums) bytes b both refl u ∙ stored-whole (head_of number sums ++ bytes) b (ap length (sym e) ∙ length-block number part ∙ sym l) ∙ sym e
+
+-- a number of 16 bits, as its bytes are written
+pub half-bytes : (n : ℕ) → n < 65536 → n % 256 ∷ n / 256 % 256 ∷ [] ≡ half n
+half-bytes n h = let z : n / 256 % 256 ≡ n / 256 = omega arith in rw z
 
 -- a good block stays, a bad one is written anew
 pub kept : (place : ℕ) (b : List ℕ) → reason_of place b ≡ 0 → b ≡ salvaged_of place b

@@ -8,7 +8,7 @@ use Rattle.image.specs.declared.Reply.{Reply}
 use Rattle.image.specs.Images.{reason_at, bad_places, listed}
 use Rattle.image.specs.Calls.{blocks_of, salvage_number, salvage_reply, Salvaged}
 use Rattle.image.proofs.Lists.{few-bad, named, length-listed}
-use Rattle.image.proofs.Calls.{blocks-few, salvage-fits, salvage-zero}
+use Rattle.image.proofs.Calls.{blocks_few, salvage-fits, salvage-zero}
 use Rattle.image.proofs.Names.{in_order, all_named, entry_place, entry-reason, word-stored, beyond-stored}
 
 -- entry k of a list names a bad block of an image, and why it is bad
@@ -56,7 +56,7 @@ module _ {part : ℕ} {image list : List ℕ} {r : Reply} {image' list' : List �
   at_place k h =
       let i : k < length bads = omega (arith, count) in
       let p = (named image n k i).0 in
-      at-word (8 * k) (omega arith) ∙ entry_place image bads k i (omega (arith, blocks-few part))
+      at-word (8 * k) (omega arith) ∙ entry_place image bads k i (omega (arith, blocks_few part))
 
   -- every entry names a bad block, with its reason
   pub list-names : (k : ℕ) → k < r.blocks → Entry image list' (blocks_of part) k

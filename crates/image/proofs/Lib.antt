@@ -1,6 +1,7 @@
 -- Laws of images.
 pub mod Folds
 pub mod Parts
+pub mod Faults
 pub mod Blocks
 pub mod Lists
 pub mod Salvages

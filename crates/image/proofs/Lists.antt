@@ -1,9 +1,8 @@
 -- Laws of the bad places and of the list of them: what the loops come to, and what the list names.
 -- Assumes nothing.
-use Rattle.std.proofs.Common.{◌≡◌, ℕ, zero, suc, ◌+◌, ◌*◌, ◌/◌, ◌%◌, ◌<◌, ◌≤◌, Bool, true, false, eqb, ltb, List, [], ◌∷◌, ◌++◌, length, get_or, sym, refl, ap, ◌∙◌, append-nil, add-one, arith, lit<, lit≤, length-append, get_or-append-add, ltb-false, ltb-true, eq-eqb, ne_eqb, eqb-true}
+use Rattle.std.proofs.Common.{◌≡◌, ℕ, zero, suc, ◌+◌, ◌*◌, ◌<◌, ◌≤◌, Bool, true, false, eqb, ltb, List, [], ◌∷◌, ◌++◌, length, get_or, sym, refl, ap, ◌∙◌, append-nil, add-one, arith, lit<, lit≤, length-append, get_or-append-add, ltb-false, ltb-true, eq-eqb, ne_eqb, eqb-true, slice_get, Some}
 use borrow.Author.Tests.{eqb-false}
 use lib.ListN.{get_or-append}
-use Rattle.slices.specs.Bytes.{word}
 use Rattle.slices.proofs.Choices.{cond_ind}
 use Rattle.image.specs.Images.{reason_at, bad_places, entry_of, listed}
 use Rattle.image.specs.Steps.{note_of}
@@ -53,15 +52,6 @@ pub length-listed : (image xs : List ℕ) → length (listed image xs) ≡ 8 * l
 unfolding listed
 length-listed image [] = refl
 length-listed image (p ∷ xs) = rw (length-listed image xs) (omega arith)
-
--- a reason's four bytes
-pub small_word : (why : ℕ) → why < 256 → word why ≡ why ∷ 0 ∷ 0 ∷ 0 ∷ []
-small_word why h =
-    let a : why % 256 ≡ why = omega arith in
-    let b : why / 256 % 256 ≡ 0 = omega arith in
-    let c : why / 65536 % 256 ≡ 0 = omega arith in
-    let d : why / 16777216 % 256 ≡ 0 = omega arith in
-    rw (a, b, c, d)
 
 -- one more block
 pub listed_next : (image : List ℕ) (p why : ℕ) → why ≡ reason_at image p → listed image (bad_places image p) ++ note_of p why ≡ listed image (bad_places image (p + 1))
@@ -117,8 +107,13 @@ later image d m (suc n) h some = go (eqb m (suc n)) refl (λ k. later image d m 
         rw (past-bad image n (eqb-false _ _ q)) (rw length-append (omega arith), get_or-append (bad_places image n) (n ∷ []) d 0 r.0 ∙ r.1)
 
 -- the first bad block
-pub first-here : (image : List ℕ) (p n : ℕ) → bad_places image p ≡ [] → (reason_at image p ≡ 0 → ⊥) → p < n → p ≡ get_or (bad_places image n) 0 n
+pub first-here : (image : List ℕ) (p n : ℕ) → bad_places image p ≡ [] → (reason_at image p ≡ 0 → ⊥) → p < n → Some p ≡ slice_get (bad_places image n) 0
 first-here image p n none bad h =
     let e : bad_places image (suc p) ≡ p ∷ [] = past-bad image p bad ∙ ap (λ (t : List ℕ). t ++ (p ∷ [])) none in
     let some : 0 < length (bad_places image (suc p)) = rw e (lit< tt) in
-    sym ((later image n (suc p) n (omega arith) some).1 ∙ ap (λ (t : List ℕ). get_or t 0 n) e)
+    let l = later image n (suc p) n (omega arith) some in
+    front_is (bad_places image n) p n l.0 (sym (l.1 ∙ ap (λ (t : List ℕ). get_or t 0 n) e))
+  where
+    front_is : (xs : List ℕ) (x d : ℕ) → 0 < length xs → x ≡ get_or xs 0 d → Some x ≡ slice_get xs 0
+    front_is [] x d some e = absurd (omega arith)
+    front_is (y ∷ ys) x d some e = ap Some e

@@ -14,13 +14,13 @@ use Rattle.image.specs.Blocks.{filled_up, block_of, reason_of}
 use Rattle.image.specs.Images.{part_of, imaged, unimaged, mended, reason_at, bad_places, listed}
 use Rattle.image.specs.Calls.{blocks_of, copy_number, salvage_number, reply, found_bad, read_reply, salvage_reply, Written, Read, Salvaged}
 use Rattle.image.proofs.Lists.{named}
-use Rattle.image.proofs.Calls.{blocks-hold, blocks-few, copy-fits, copy-fine, salvage-fits, salvage-known, salvage-zero}
+use Rattle.image.proofs.Calls.{blocks_hold, blocks_few, copy_fits, copy-fine, salvage-fits, salvage-known, salvage-zero}
 use Rattle.image.proofs.Wholes as wholes
 use Rattle.image.proofs.Names as names
 
 -- no part has more blocks than four bytes can number
 few : (part : ℕ) → blocks_of part ≤ 4294967296
-few part = omega (arith, blocks-few part)
+few part = omega (arith, blocks_few part)
 
 -- every block is good
 abbrev pub AllGood : ℕ → List ℕ → Type 0
@@ -62,7 +62,7 @@ module _ {part : ℕ} {array image : List ℕ} {r : ℕ} {image' : List ℕ} (w 
   fits = sym w.answer ∙ z
 
   whole : length image ≡ blocks_of part * 512
-  whole = (copy-fits part (length array) (length image) fits).0
+  whole = (copy_fits part (length array) (length image) fits).0
 
   is : image' ≡ map_at (imaged array) image
   is = w.blocks ∙ ap (λ (k : ℕ). on_zero k (map_at (imaged array) image) image) fits
@@ -81,7 +81,7 @@ module _ {part : ℕ} {array image : List ℕ} {r : ℕ} {image' : List ℕ} (w 
       let l : length image' ≡ length image = ap length is ∙ length-map (imaged array) image in
       let k : copy_number part (length old) (length image') ≡ 0 = rw (same, l) fits in
       let o : read_reply part image' (length old) ≡ reply 0 0 = fine part image' (length old) k written-good in
-      let room : length array ≤ blocks_of part * 504 = rw (copy-fits part (length array) (length image) fits).1 (blocks-hold part) in (
+      let room : length array ≤ blocks_of part * 504 = rw (copy_fits part (length array) (length image) fits).1 (blocks_hold part) in (
         d.answer ∙ o,
         d.memory ∙ (ap (λ (q : Reply). on_zero q.answer (map_at (unimaged image') old) old) o
             ∙ (ap (λ (t : List ℕ). map_at (unimaged t) old) is ∙ wholes.read-written (blocks_of part) (few part) image whole array old room same)),
@@ -172,7 +172,7 @@ module _ {part : ℕ} {image list : List ℕ} {r : Reply} {image' list' : List �
         ∙ (get_or-map (unimaged image') array i 0 lt ∙ go (eqb (reason_at image (i / 504)) 0) refl)
       where
         inside : i / 504 < blocks_of part
-        inside = let h = blocks-hold part in omega arith
+        inside = let h = blocks_hold part in omega arith
 
         go : (b : Bool) → eqb (reason_at image (i / 504)) 0 ≡ b
             → unimaged image' i (get_or array i 0) ≡ cond (eqb (reason_at image (i / 504)) 0) (get_or (drop 8 (part_of 512 (i / 504) image)) (i % 504) 0) 255

@@ -1,46 +1,56 @@
 // Runs lists of jobs on the bench part, neighbours swapped and not, and writes the answers with the bits missing, whether the arrays end the same, and byte 16 of each; then a list on an M25PE40 with a locked sector.
 #![tactic(auto)]
 
+ghost use Rattle.std.specs.Prelude.{◌<◌, ◌^◌};
+
+use chip::lent::transact_lent;
 use device::Device;
+use slices::byte_at;
 use std::io;
 
-// One transaction.
-fn send(device: Device, array: &mut [u8], sent: &[u8]) -> Device {
-    let mut response = [0; 16];
-    let done = chip::transact(device, array, sent, 0, true, &mut response);
-    done.device
-}
-
-// The settings written: a write enable, the instruction, a wait.
-fn set(device: Device, array: &mut [u8], settings: &[u8]) -> Device {
-    let on = send(device, array, b"\x06");
-    let started = send(on, array, settings);
-    let waited = started.wait(array, 2);
-    waited.device
-}
-
-// One job, its answer number and the bits missing written.
-fn step(rt: &impl Print, device: Device, array: &mut [u8], sent: &[u8]) -> io::Result<Device> {
-    let mut response = [0; 16];
-    let done = jobs::run_job(device, array, sent, 0, true, &mut response);
-    let answer = done.answer;
-    let number = answer.number;
-    show::print_number(rt, show::wide(number))?;
-    rt.write_all(b"/")?;
-    print!(rt; "{}", answer.missing)?;
-    Ok(done.device)
-}
-
-// Two jobs.
-fn pair(
-    rt: &impl Print,
+// A chip: its record, and the array lent to it.
+#[derive(Drop)]
+struct Chip<'a> {
     device: Device,
-    array: &mut [u8],
-    first: &[u8],
-    second: &[u8],
-) -> io::Result<Device> {
-    let between = step(rt, device, array, first)?;
-    step(rt, between, array, second)
+    array: &'a mut [u8],
+}
+
+impl<'a> Chip<'a> {
+    // A delivered part.
+    fn delivered(part: u32, array: &'a mut [u8]) -> Self {
+        let delivered = chip::deliver(part, array, 3, 5, 9, 2);
+        Chip {
+            device: delivered.device,
+            array,
+        }
+    }
+
+    // One transaction.
+    fn send(&mut self, sent: &[u8]) {
+        let mut response = [0; 16];
+        transact_lent(&mut self.device, self.array, sent, 0, true, &mut response);
+    }
+
+    // The settings written: a write enable, the instruction, a wait.
+    fn set(&mut self, settings: &[u8]) {
+        self.send(b"\x06");
+        self.send(settings);
+        self.device = self.device.wait(self.array, 2).device;
+    }
+
+    // One job, its answer number and the bits missing written.
+    fn step(&mut self, rt: &impl Print, sent: &[u8]) -> io::Result<()> {
+        let mut response = [0; 16];
+        let done = jobs::run_job(self.device, self.array, sent, 0, true, &mut response);
+        self.device = done.device;
+        print!(rt; " {}/{}", done.answer.number, done.answer.missing)
+    }
+
+    // Two jobs.
+    fn pair(&mut self, rt: &impl Print, first: &[u8], second: &[u8]) -> io::Result<()> {
+        self.step(rt, first)?;
+        self.step(rt, second)
+    }
 }
 
 // A delivered part with these settings, and two jobs between a program before and one after.
@@ -51,69 +61,41 @@ fn list(
     first: &[u8],
     second: &[u8],
 ) -> io::Result<()> {
-    let delivered = chip::deliver(0, array, 3, 5, 9, 2);
-    let ready = set(delivered.device, array, settings);
-    let between = pair(rt, ready, array, b"\x02\x00\x00\x10\x7F", first)?;
-    pair(rt, between, array, second, b"\x02\x00\x04\x00\x3C")?;
-    Ok(())
+    let mut chip = Chip::delivered(0, array);
+    chip.set(settings);
+    chip.pair(rt, b"\x02\x00\x00\x10\x7F", first)?;
+    chip.pair(rt, second, b"\x02\x00\x04\x00\x3C")
 }
 
-// What the two orders left.
-fn compare(rt: &impl Print, a: &[u8; 4096], b: &[u8; 4096]) -> io::Result<()> {
-    if show::same(a, b) {
-        rt.write_all(b" same ")?;
-    } else {
-        rt.write_all(b" differ ")?;
-    }
-    print!(rt; "{:02x}", a[16])?;
-    rt.write_all(b" ")?;
-    print!(rt; "{:02x}", b[16])?;
-    rt.write_all(b"\n")
-}
-
-// Two jobs in both orders.
+// Two jobs in both orders, and what the two orders left.
 fn both_ways(rt: &impl Print, settings: &[u8], first: &[u8], second: &[u8]) -> io::Result<()> {
     let mut a = [0; 4096];
     let mut b = [0; 4096];
     list(rt, &mut a, settings, first, second)?;
     rt.write_all(b" |")?;
     list(rt, &mut b, settings, second, first)?;
-    compare(rt, &a, &b)
-}
-
-// An M25PE40 with the lock register of sector 3 written.
-fn locked(array: &mut [u8], register: &[u8]) -> Device {
-    let delivered = chip::deliver(6, array, 3, 5, 9, 2);
-    let on = send(delivered.device, array, b"\x06");
-    send(on, array, register)
+    show::print_choice(rt, a == b, b" same", b" differ")?;
+    println!(rt; " {:02x} {:02x}", a[16], b[16])
 }
 
 // Prints the last byte of sector 2 and the first of sector 3.
 fn print_edge(rt: &impl Print, array: &[u8]) -> io::Result<()> {
-    rt.write_all(b" ")?;
-    print!(rt; "{:02x}", slices::byte_at(array, 0x02_FFFF))?;
-    print!(rt; "{:02x}", slices::byte_at(array, 0x03_0000))?;
-    rt.write_all(b"\n")
+    let last = byte_at(array, 0x02_FFFF);
+    let first = byte_at(array, 0x03_0000);
+    println!(rt; " {last:02x}{first:02x}")
 }
 
-// Two programs in sector 2, one in sector 3, a bulk erase.
-fn beside(rt: &impl Print, start: Device, array: &mut [u8]) -> io::Result<()> {
-    let next = pair(
-        rt,
-        start,
-        array,
-        b"\x02\x02\xFF\xFF\x55",
-        b"\x02\x02\xFF\xFF\xF0",
-    )?;
-    pair(rt, next, array, b"\x02\x03\x00\x00\x3C", b"\xC7")?;
-    print_edge(rt, array)
-}
-
-// These jobs on an M25PE40 with that register.
-fn on_m25pe40(rt: &impl Print, register: &[u8]) -> io::Result<()> {
-    let mut array = [0; 524_288];
-    let start = locked(&mut array, register);
-    beside(rt, start, &mut array)
+// An M25PE40 with the lock register of sector 3 written; two programs in sector 2, one in sector 3, a bulk erase.
+fn beside<const BYTES: usize>(rt: &impl Print, register: &[u8]) -> io::Result<()>
+    requires { BYTES < 2 ^ 63 }
+{
+    let mut array = [0; BYTES];
+    let mut chip = Chip::delivered(6, &mut array);
+    chip.send(b"\x06");
+    chip.send(register);
+    chip.pair(rt, b"\x02\x02\xFF\xFF\x55", b"\x02\x02\xFF\xFF\xF0")?;
+    chip.pair(rt, b"\x02\x03\x00\x00\x3C", b"\xC7")?;
+    print_edge(rt, &array)
 }
 
 fn main(rt: HostRuntime) -> io::Result<()> {
@@ -152,7 +134,7 @@ fn main(rt: HostRuntime) -> io::Result<()> {
     // BP 1: a bulk erase and a sector erase
     both_ways(&rt, b"\x01\x04", b"\xC7", b"\xD8\x00\x00\x00")?;
     // a write lock stops the program in its sector and the bulk erase
-    on_m25pe40(&rt, b"\xE5\x03\x00\x00\x01")?;
+    beside::<524_288>(&rt, b"\xE5\x03\x00\x00\x01")?;
     // lock-down alone stops nothing
-    on_m25pe40(&rt, b"\xE5\x03\x00\x00\x02")
+    beside::<524_288>(&rt, b"\xE5\x03\x00\x00\x02")
 }

@@ -21,12 +21,12 @@ use Rattle.chip.specs.Outcome.{bare}
 use Rattle.chip.specs.Events.{left}
 use Rattle.chip.proofs.Records.{wait-sound}
 use Rattle.chip.proofs.Rules.{answer-few, stays-sound}
-use Rattle.bus.specs.Bus.{bytes_of, sum_of, all_sound, chips_in, row_of, at, nth}
+use Rattle.bus.specs.Bus.{bytes_of, sum_of, all_sound, chips_in, row_of, nth}
 use Rattle.bus.specs.Runs.{asks, passes, next}
 use Rattle.bus.specs.Calls.{out_of_range, whole_number, wait_number, bus_number, Shared, chosen, bused, Waited, all_wait, bus_waited, Turns, Passes}
 use Rattle.bus.proofs.Numbers.{out-above, wait-zero, bus-zero}
 use Rattle.bus.proofs.Chips.{chip-at, row-set}
-use Rattle.bus.proofs.Eight.{waited-length}
+use Rattle.bus.proofs.Waits.{waited-length}
 use Rattle.bus.proofs.Theorems.{only_zero, only-zero-waits}
 use Rattle.m25p.specs.Calls.{packed_answer, high}
 use Rattle.m25p.specs.Bus.{records_in, packed_row, bused_c, BusedC, bus_waited_c, BusWaitedC}
@@ -126,20 +126,21 @@ module _ (row array : List ℕ) (t : ℕ) where
           ap (take (length row / 304)) (p.records ∙ ap (λ (l : List Device). l ++ drop (length row / 304) records) (wait-same.row (sym p.answer ∙ z)))
           ∙ take_at waited.row (drop (length row / 304) records) (length row / 304) (waited-length (records_in row) array t ∙ records-count row)
 
-      pub wait-fits : (0 ≤ length row / 304) × (length row / 304 ≤ 9) × (length row / 304 * 304 ≤ length row) × (all_sound (take (length row / 304 - 0) next) ≡ true)
+      pub wait-fits : (length row / 304 ≤ 9) × ((0 + length (take (length row / 304) next)) * 304 ≤ length row) × (all_sound (take (length row / 304) next) ≡ true)
       wait-fits =
           let w = waited-zero (records_in row) array t zero_is in
           let c = records-count row in
-          let n : length row / 304 - 0 ≡ length row / 304 = omega arith in
-          (omega arith, omega (arith, c, w.0), omega arith, rw (n, first-is) w.1)
+          let l = ap length first-is ∙ waited-length (records_in row) array t in
+          (omega (arith, c, w.0), omega (arith, l, c), rw first-is w.1)
 
-      pub wait-wrote : {r : ℕ} {row' : List ℕ} → row' ≡ packed_row (take (length row / 304 - 0) next) ++ drop (length row / 304 * 304) row → r ≡ packed_answer (bare 0) → BusWaitedC (bus_waited_c row array t) row r row' array'
+      pub wait-wrote : {r : ℕ} {row' : List ℕ} → row' ≡ take (0 * 304) row ++ (packed_row (take (length row / 304) next) ++ drop ((0 + length (take (length row / 304) next)) * 304) row) → r ≡ packed_answer (bare 0) → BusWaitedC (bus_waited_c row array t) row r row' array'
       wait-wrote q h =
-          let n : length row / 304 - 0 ≡ length row / 304 = omega arith in
-          let d : drop (length row / 304 * 304) row ≡ [] = drop_of_length-le row {i = length row / 304 * 304} (omega (arith, m)) in
+          let l = ap length first-is ∙ waited-length (records_in row) array t in
+          let c = records-count row in
+          let d : drop ((0 + length (take (length row / 304) next)) * 304) row ≡ [] = drop_of_length-le row {i = (0 + length (take (length row / 304) next)) * 304} (omega (arith, m, l, c)) in
           rw (wait-even m) (record {
             answer = h ∙ ap (λ (k : ℕ). packed_answer (bare k)) (sym zero_is);
-            bytes = rw zero_is (q ∙ rw (n, d, first-is) (append-nil (packed_row waited.row)));
+            bytes = rw zero_is (q ∙ rw (d, first-is) (append-nil (packed_row waited.row)));
             memory = p.memory ∙ wait-same.array;
           })
 
@@ -268,20 +269,21 @@ module _ (row array : List ℕ) (k : ℕ) (sent : List ℕ) (pulses w : ℕ) (re
           one-there (records_in row) (drop (length row / 304) records) next k set_is.device set_is.there
           (p.records ∙ ap (λ (l : List Device). l ++ drop (length row / 304) records) (turn-same.row (sym (ap (λ (x : Answer). x.number) p.answer) ∙ z) ∙ set_is.row))
 
-      pub turn-fits : (k ≤ k + 1) × (k + 1 ≤ 9) × ((k + 1) * 304 ≤ length row) × (all_sound (take (k + 1 - k) (drop k next)) ≡ true)
+      pub turn-fits : (k + 1 ≤ 9) × ((k + length (take (k + 1 - k) (drop k next))) * 304 ≤ length row) × (all_sound (take (k + 1 - k) (drop k next)) ≡ true)
       turn-fits =
           let c = records-count row in
           let s = set_is in
-          (omega arith, omega (arith, s.there, s.few), omega (arith, c, s.there), rw (one-is, set_is.device-sound))
+          (omega (arith, s.there, s.few), rw one-is (omega (arith, c, s.there)), rw (one-is, set_is.device-sound))
 
-      pub turn-wrote : {r : ℕ} {row' : List ℕ} → row' ≡ take (k * 304) row ++ (packed_row (take (k + 1 - k) (drop k next)) ++ drop ((k + 1) * 304) row) → r ≡ packed_answer a
+      pub turn-wrote : {r : ℕ} {row' : List ℕ} → row' ≡ take (k * 304) row ++ (packed_row (take (k + 1 - k) (drop k next)) ++ drop ((k + length (take (k + 1 - k) (drop k next))) * 304) row) → r ≡ packed_answer a
           → BusedC (bused_c row array k sent pulses w response) row r row' array' response'
       turn-wrote {r} {row'} q h =
           let c = records-count row in
           let d = set_is.device in
           let b : row' ≡ packed_row turned.row =
-          q ∙ (ap (λ (l : List ℕ). take (k * 304) row ++ (l ++ drop ((k + 1) * 304) row)) (ap packed_row one-is ∙ append-nil (pack_of d))
-          ∙ (sym (packed-one row m set_is.all k d (omega (arith, c, set_is.there))) ∙ ap packed_row (sym set_is.row))) in
+          q ∙ (ap (λ (l : List Device). take (k * 304) row ++ (packed_row l ++ drop ((k + length l) * 304) row)) one-is
+          ∙ (ap (λ (l : List ℕ). take (k * 304) row ++ (l ++ drop ((k + 1) * 304) row)) (append-nil (pack_of d))
+          ∙ (sym (packed-one row m set_is.all k d (omega (arith, c, set_is.there))) ∙ ap packed_row (sym set_is.row)))) in
           rw (turn_even m) (record {
             answer = h ∙ ap packed_answer turn-says;
             bytes = rw number_is b;

@@ -26,7 +26,7 @@ use Rattle.chip.specs.declared.answers.Verdict.TheVariants.{Refused}
 use Rattle.chip.specs.Answers.{delivery_answer}
 use Rattle.chip.specs.Outcome.{Outcome, bare, outcome_of, transacted, Meets, Delivered}
 use Rattle.chip.proofs.Rules.{answer-few, stays-sound}
-use Rattle.m25p.specs.Calls.{packed_answer, high, packed_by, transacted_c, Called, timed_c, CalledOn, delivery_c, DeliveredC}
+use Rattle.m25p.specs.Calls.{Keeps, packed_answer, high, packed_by, transacted_c, Called, timed_c, CalledOn, delivery_c, DeliveredC}
 
 -- ---- packing
 
@@ -118,10 +118,6 @@ pub one-call : {o : Outcome} {packed packed' packed'' array' array'' response' r
 one-call p q = (p.answer ∙ sym q.answer, p.bytes ∙ sym q.bytes, p.memory ∙ sym q.memory, p.line ∙ sym q.line)
 
 -- ---- wait, power-up and power loss
-
--- a call that leaves a sound record sound
-abbrev pub Keeps : (Chip → Timed) → Type 0
-Keeps call = (c : Chip) → sound c.device ≡ true → sound (call c).chip.device ≡ true
 
 -- as the code goes: what unpacking gave, and the call on it
 module _ (call : Chip → Timed) (packed array : List ℕ) {came : Checked} (e : came ≡ unpack_of packed) where

@@ -8,8 +8,9 @@ use native.Mathlib.Omega.{arith}
 use borrow.Author.Tests.{leb-true, leb-false}
 use borrow.Rule.Slice.PartMut.{put_mid}
 use lib.Dec.{leb}
-use lib.ListN.{length, set, take, drop, length-drop, length-append, take-append-drop}
-use lib.Seq.{length-take-le, take_all, take-suc, take-suc-set, take-take, take_at, drop_at, drop-drop, take-add, get_or-drop, get_or-take}
+use Rattle.std.specs.Simd.{first_chunks}
+use lib.ListN.{length, get_or, set, take, drop, length-drop, length-append, take-append-drop}
+use lib.Seq.{length-take-le, take_all, take-suc, take-suc-set, take_at, drop_at, drop-drop, take-add}
 use Rattle.slices.specs.Changed.{map_at, stored}
 use Rattle.slices.specs.Chosen.{on_zero}
 use Rattle.slices.proofs.Choices.{both}
@@ -36,25 +37,22 @@ pub records-count : (row : List ℕ) → length (records_in row) ≡ length row 
 unfolding records_in
 records-count row = records-length (length row / 304) row
 
-record-from : (n : ℕ) (row : List ℕ) (k : ℕ) → k < n → at (records_from n row) k ≡ (unpack_of (take 304 (drop (k * 304) row))).device
-record-from zero row k h = absurd (omega arith)
-record-from (suc n) row zero h = refl
-record-from (suc n) row (suc k) h =
-    let z : 304 + k * 304 ≡ suc k * 304 = omega arith in
-    record-from n (drop 304 row) k (omega arith) ∙ ap (λ (t : List ℕ). (unpack_of (take 304 t)).device) (drop-drop (k * 304) 304 row ∙ ap (λ (m : ℕ). drop m row) z)
+-- record k is that of chunk k
+record-from : (n : ℕ) (row : List ℕ) (k : ℕ) (e : List ℕ) → k < n → at (records_from n row) k ≡ (unpack_of (get_or (first_chunks 304 n row) k e)).device
+record-from zero row k e h = absurd (omega arith)
+record-from (suc n) row zero e h = refl
+record-from (suc n) row (suc k) e h = record-from n (drop 304 row) k e (omega arith)
 
--- record k stands in the bytes from 304 k on
-record-at : (row : List ℕ) (k : ℕ) → k < length row / 304 → at (records_in row) k ≡ (unpack_of (take 304 (drop (k * 304) row))).device
+record-at : (row : List ℕ) (k : ℕ) (e : List ℕ) → k < length row / 304 → at (records_in row) k ≡ (unpack_of (get_or (first_chunks 304 (length row / 304) row) k e)).device
 unfolding records_in
-record-at row k h = record-from (length row / 304) row k h
+record-at row k e h = record-from (length row / 304) row k e h
 
 -- one record more was read
-pub read_next : (row : List ℕ) (k : ℕ) (records : List Device) {c : Checked} → k < length records → k < length row / 304 → take k records ≡ take k (records_in row) → c ≡ unpack_of (take (k * 304 + 304 - k * 304) (drop (k * 304) row))
+pub read_next : (row : List ℕ) (k : ℕ) (e : List ℕ) (records : List Device) {c : Checked} → k < length records → k < length row / 304 → take k records ≡ take k (records_in row) → c ≡ unpack_of (get_or (first_chunks 304 (length row / 304) row) k e)
     → take (suc k) (set records k c.device) ≡ take (suc k) (records_in row)
-read_next row k records {c} h l e q =
-    let z : k * 304 + 304 - k * 304 ≡ 304 = omega arith in
-    let d : c.device ≡ at (records_in row) k = ap (λ (x : Checked). x.device) q ∙ (ap (λ (m : ℕ). (unpack_of (take m (drop (k * 304) row))).device) z ∙ sym (record-at row k l)) in
-    take-suc-set records k c.device h ∙ (ap₂ (λ (u : List Device) (v : Device). u ++ (v ∷ [])) e d ∙ sym (take-suc (records_in row) k zero_record (omega (arith, records-count row, l))))
+read_next row k e records {c} h l p q =
+    let d : c.device ≡ at (records_in row) k = ap (λ (x : Checked). x.device) q ∙ sym (record-at row k e l) in
+    take-suc-set records k c.device h ∙ (ap₂ (λ (u : List Device) (v : Device). u ++ (v ∷ [])) p d ∙ sym (take-suc (records_in row) k zero_record (omega (arith, records-count row, l))))
 
 -- all were read for which there are places
 pub read-end : (row : List ℕ) (k : ℕ) (records : List Device) → length records ≡ 9 → k ≡ min (length row / 304) 9 → take k records ≡ take k (records_in row) → take (length row / 304) records ≡ take 9 (records_in row)
@@ -100,61 +98,49 @@ packed-append : (a b : List Device) → packed_row (a ++ b) ≡ packed_row a ++ 
 packed-append [] b = refl
 packed-append (d ∷ a) b = ap (λ (t : List ℕ). pack_of d ++ t) (packed-append a b) ∙ sym (append_assoc (pack_of d) (packed_row a) (packed_row b))
 
--- ---- records written over a row, from record f on
+-- ---- records written over a row, from place f on
 
--- the row after the records f up to k were written
+-- the row after the first i records were written
 abbrev pub written : ℕ → ℕ → List Device → List ℕ → List ℕ
-written f k ds row = take (f * 304) row ++ (packed_row (take (k - f) (drop f ds)) ++ drop (k * 304) row)
+written f i ds row = take (f * 304) row ++ (packed_row (take i ds) ++ drop ((f + i) * 304) row)
 
 -- none was written yet
-pub write-first : (f : ℕ) (ds : List Device) (row : List ℕ) → row ≡ written f f ds row
-write-first f ds row = let z : f - f ≡ 0 = omega arith in rw z (sym (take-append-drop (f * 304) row))
+pub write-first : (f : ℕ) (ds : List Device) (row : List ℕ) → row ≡ written f 0 ds row
+write-first f ds row = let z : f + 0 ≡ f = omega arith in rw z (sym (take-append-drop (f * 304) row))
 
-module _ (f k e : ℕ) (ds : List Device) (row : List ℕ) (below : f ≤ k) (upto : k ≤ e) (few : e ≤ length ds) (fits : e * 304 ≤ length row) (s : all_sound (take (e - f) (drop f ds)) ≡ true) where
-  abbrev some : List Device
-  some = take (k - f) (drop f ds)
+-- all were
+pub write-last : (f i : ℕ) (ds : List Device) (row : List ℕ) → i ≡ length ds → written f i ds row ≡ take (f * 304) row ++ (packed_row ds ++ drop ((f + length ds) * 304) row)
+write-last f i ds row e = rw e (ap (λ (l : List Device). take (f * 304) row ++ (packed_row l ++ drop ((f + length ds) * 304) row)) (take_all (length ds) ds (omega arith)))
 
-  some-sound : all_sound some ≡ true
-  some-sound = ap all_sound (sym (take-take (k - f) (e - f) (drop f ds) (omega arith))) ∙ sound-take (k - f) (take (e - f) (drop f ds)) s
-
-  front_long : length (take (f * 304) row ++ packed_row some) ≡ k * 304
+module _ (f i : ℕ) (ds : List Device) (row : List ℕ) (upto : i ≤ length ds) (fits : (f + length ds) * 304 ≤ length row) (s : all_sound ds ≡ true) where
+  front_long : length (take (f * 304) row ++ packed_row (take i ds)) ≡ (f + i) * 304
   front_long =
       let a = length-take-le (f * 304) row (omega arith) in
-      let b = packed-long some some-sound in
-      let c = length-take-le (k - f) (drop f ds) (let l = length-drop f ds in omega arith) in
-      length-append (take (f * 304) row) (packed_row some) ∙ omega (arith, a, b, c, below)
-
-  -- the row is as long as it was
-  pub written-long : length (written f k ds row) ≡ length row
-  written-long =
-      ap length (sym (append_assoc (take (f * 304) row) (packed_row some) (drop (k * 304) row))) ∙ (length-append (take (f * 304) row ++ packed_row some) (drop (k * 304) row) ∙ (let t = front_long in let l = length-drop (k * 304) row in omega (arith, t, l)))
+      let b = packed-long (take i ds) (sound-take i ds s) in
+      let c = length-take-le i ds upto in
+      length-append (take (f * 304) row) (packed_row (take i ds)) ∙ omega (arith, a, b, c)
 
   -- the next one was written
-  pub write-next : k < e → (next : List ℕ) {v : Device} {ys : List ℕ} → next ≡ written f k ds row → v ≡ at ds k → ys ≡ map_at (stored 0 (pack_of v)) (take (k * 304 + 304 - k * 304) (drop (k * 304) next))
-      → put_mid (k * 304) (k * 304 + 304 - k * 304) next ys ≡ written f (suc k) ds row
-  write-next more next {v} {ys} g same q =
-      let i = k - f in
-      let xs = take (f * 304) row ++ packed_row some in
-      let x : next ≡ xs ++ drop (k * 304) row = g ∙ sym (append_assoc (take (f * 304) row) (packed_row some) (drop (k * 304) row)) in
-      let j : i < length (drop f ds) = let l = length-drop f ds in omega (arith, l) in
-      let d : at (drop f ds) i ≡ at ds k = get_or-drop f ds i zero_record ∙ ap (at ds) (omega arith) in
-      let sd : sound (at ds k) ≡ true =
-      ap sound (sym (get_or-take (e - f) (drop f ds) i zero_record (omega arith) ∙ d)) ∙ sound-at (take (e - f) (drop f ds)) i s (let l = length-drop f ds in let m = length-take-le (e - f) (drop f ds) (omega arith) in omega (arith, m)) in
-      let b : length (take (k * 304 + 304 - k * 304) (drop (k * 304) next)) ≡ 304 =
-      length-take-le (k * 304 + 304 - k * 304) (drop (k * 304) next) (let u = length-drop (k * 304) next in let v = ap length x ∙ length-append xs (drop (k * 304) row) in let w = length-drop (k * 304) row in let t = front_long in omega (arith, u, v, w, t)) ∙ omega arith in
-      let y : ys ≡ pack_of (at ds k) = q ∙ (ap (λ (x : Device). map_at (stored 0 (pack_of x)) (take (k * 304 + 304 - k * 304) (drop (k * 304) next))) same ∙ stored-whole (pack_of (at ds k)) _ (pack-long (at ds k) sd ∙ sym b)) in
-      let t : take (k * 304) next ≡ xs = ap (take (k * 304)) x ∙ take_at xs (drop (k * 304) row) (k * 304) front_long in
-      let u : drop (k * 304) next ≡ drop (k * 304) row = ap (drop (k * 304)) x ∙ drop_at xs (drop (k * 304) row) (k * 304) front_long in
-      let z : k * 304 + 304 ≡ suc k * 304 = omega arith in
-      let r : drop (k * 304 + 304) next ≡ drop (suc k * 304) row = sym (drop-drop 304 (k * 304) next) ∙ (ap (drop 304) u ∙ (drop-drop 304 (k * 304) row ∙ ap (λ (m : ℕ). drop m row) z)) in
-      let n : suc k - f ≡ suc i = omega arith in
-      let w : packed_row (take (suc k - f) (drop f ds)) ≡ packed_row some ++ pack_of (at ds k) =
-      ap (λ (m : ℕ). packed_row (take m (drop f ds))) n
-      ∙ (ap packed_row (take-suc (drop f ds) i zero_record j) ∙ (packed-append some (at (drop f ds) i ∷ []) ∙ ap (λ (a : List ℕ). packed_row some ++ a) (append-nil (pack_of (at (drop f ds) i)) ∙ ap pack_of d))) in
-      part-back (k * 304) (k * 304 + 304) next (omega arith) y
-      ∙ (ap₂ (λ (a b : List ℕ). a ++ (pack_of (at ds k) ++ b)) t r
-      ∙ (append_assoc (take (f * 304) row) (packed_row some) (pack_of (at ds k) ++ drop (suc k * 304) row)
-      ∙ ap (λ (a : List ℕ). take (f * 304) row ++ a) (sym (append_assoc (packed_row some) (pack_of (at ds k)) (drop (suc k * 304) row)) ∙ ap (λ (a : List ℕ). a ++ drop (suc k * 304) row) (sym w))))
+  pub write-next : i < length ds → (next : List ℕ) (from : ℕ) {v : Device} {ys : List ℕ} → next ≡ written f i ds row → from ≡ (f + i) * 304 → v ≡ at ds i → ys ≡ map_at (stored 0 (pack_of v)) (take (from + 304 - from) (drop from next))
+      → put_mid from (from + 304 - from) next ys ≡ written f (suc i) ds row
+  write-next more next from {v} {ys} g p same q =
+      let xs = take (f * 304) row ++ packed_row (take i ds) in
+      let x : next ≡ xs ++ drop ((f + i) * 304) row = g ∙ sym (append_assoc (take (f * 304) row) (packed_row (take i ds)) (drop ((f + i) * 304) row)) in
+      let lx : length xs ≡ from = front_long ∙ sym p in
+      let b : length (take (from + 304 - from) (drop from next)) ≡ 304 =
+      length-take-le (from + 304 - from) (drop from next) (let u = length-drop from next in let w = ap length x ∙ length-append xs (drop ((f + i) * 304) row) in let t = length-drop ((f + i) * 304) row in omega (arith, u, w, t, lx, p)) ∙ omega arith in
+      let y : ys ≡ pack_of (at ds i) =
+      q ∙ (ap (λ (x : Device). map_at (stored 0 (pack_of x)) (take (from + 304 - from) (drop from next))) same ∙ stored-whole (pack_of (at ds i)) _ (pack-long (at ds i) (sound-at ds i s more) ∙ sym b)) in
+      let t : take from next ≡ xs = ap (take from) x ∙ take_at xs (drop ((f + i) * 304) row) from lx in
+      let u : drop from next ≡ drop ((f + i) * 304) row = ap (drop from) x ∙ drop_at xs (drop ((f + i) * 304) row) from lx in
+      let z : (f + i) * 304 + 304 ≡ (f + suc i) * 304 = omega arith in
+      let r : drop (from + 304) next ≡ drop ((f + suc i) * 304) row = sym (drop-drop 304 from next) ∙ (ap (drop 304) u ∙ (drop-drop 304 ((f + i) * 304) row ∙ ap (λ (m : ℕ). drop m row) z)) in
+      let w : packed_row (take (suc i) ds) ≡ packed_row (take i ds) ++ pack_of (at ds i) =
+      ap packed_row (take-suc ds i zero_record more) ∙ (packed-append (take i ds) (at ds i ∷ []) ∙ ap (λ (a : List ℕ). packed_row (take i ds) ++ a) (append-nil (pack_of (at ds i)))) in
+      part-back from (from + 304) next (omega arith) y
+      ∙ (ap₂ (λ (a b : List ℕ). a ++ (pack_of (at ds i) ++ b)) t r
+      ∙ (append_assoc (take (f * 304) row) (packed_row (take i ds)) (pack_of (at ds i) ++ drop ((f + suc i) * 304) row)
+      ∙ ap (λ (a : List ℕ). take (f * 304) row ++ a) (sym (append_assoc (packed_row (take i ds)) (pack_of (at ds i)) (drop ((f + suc i) * 304) row)) ∙ ap (λ (a : List ℕ). a ++ drop ((f + suc i) * 304) row) (sym w))))
 
 -- ---- packings of sound records, and the records of a row
 

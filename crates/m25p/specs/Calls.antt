@@ -1,10 +1,13 @@
 -- The C calls over the packed bytes: the answer in 64 bits, and every byte of record, array and response.
-use Rattle.std.specs.Prelude.{◌≡◌, Bool, cond, not, List, ℕ, ◌+◌, ◌*◌, eqb, length}
+use Rattle.std.specs.Prelude.{◌≡◌, Bool, true, cond, not, List, ℕ, ◌+◌, ◌*◌, eqb, length}
+use denote.Param.Members.{Once}
+use denote.Ref.{MutBor}
 use Rattle.slices.specs.Changed.{map_at, put}
 use Rattle.device.specs.declared.Device.{Device}
+use Rattle.device.specs.declared.Checked.{Checked}
 use Rattle.device.specs.Chip.{Chip, chip}
-use Rattle.device.specs.Device.{on_zero, delivered}
-use Rattle.device.specs.Time.{Timed}
+use Rattle.device.specs.Device.{on_zero, delivered, sound}
+use Rattle.device.specs.Time.{Timed, Handed}
 use Rattle.device.specs.Packing.{packed_length, pack_of, unpack_answer, unpack_of}
 use Rattle.chip.specs.declared.Answer.{Answer}
 use Rattle.chip.specs.declared.answers.Verdict.TheVariants.{Refused}
@@ -43,6 +46,14 @@ unfoldable pub timed_c : (Chip → Timed) → List ℕ → List ℕ → Timed
 timed_c call packed array =
     let c = chip (unpack_of packed).device array in
     on_zero (unpack_answer packed) (call c) (record { answer = unpack_answer packed; chip = c })
+
+-- a call that leaves a sound record sound
+abbrev pub Keeps : (Chip → Timed) → Type 0
+Keeps call = (c : Chip) → sound c.device ≡ true → sound (call c).chip.device ≡ true
+
+-- a closure does to a record and an array what the call does to the chip that they are
+abbrev pub Does : {F : Type 0} → Once F (Device × (MutBor (List ℕ) × Unit {0})) (Checked × (MutBor (List ℕ) × Unit {0})) → F → (Chip → Timed) → Type 0
+Does g f call = (d : Device) (lent : MutBor (List ℕ)) (r : Checked) (back : MutBor (List ℕ)) → g.post f (d, (lent, tt)) (r, (back, tt)) → Handed (call (chip d lent.now)) r back.now
 
 pub record CalledOn (o : Timed) (packed : List ℕ) (r : ℕ) (packed' array' : List ℕ) : Type 0 where
   pub answer : r ≡ packed_answer (bare o.answer)

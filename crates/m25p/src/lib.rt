@@ -6,8 +6,9 @@ ghost use Rattle.memory.specs.Missing.{most_missing};
 ghost use Rattle.slices.specs.Chosen.{on_zero};
 ghost use Rattle.slices.specs.Changed.{map_at, stored};
 ghost use Rattle.device.specs.Packing.{pack_of};
-ghost use Rattle.device.specs.Time.{wait_call, power_up_call, loss_call};
-ghost use Rattle.m25p.specs.Calls.{packed_answer, transacted_c, Called, high, timed_c, CalledOn, DeliveredC};
+ghost use Rattle.device.specs.Chip.{Chip};
+ghost use Rattle.device.specs.Time.{Timed, wait_call, power_up_call, loss_call};
+ghost use Rattle.m25p.specs.Calls.{packed_answer, transacted_c, Called, high, Does, Keeps, timed_c, CalledOn, DeliveredC};
 ghost use Rattle.m25p.specs.Pins.{RanC};
 ghost use Rattle.m25p.specs.Batch.{BatchedC};
 ghost use Rattle.m25p.specs.Report.{ReportedC};
@@ -18,8 +19,8 @@ ghost use Rattle.chip.specs.Outcome;
 mod rows;
 
 use chip::Answer;
-use device::Device;
 use device::packing::{LENGTH, unpack};
+use device::{Checked, Device};
 use image::Reply;
 
 // The four numbers of an answer in 64 bits.
@@ -88,43 +89,47 @@ pub fn m25p_transact(
     packed_answer(answer)
 }
 
-// Waits `ticks`: on the last tick of a cycle its effect comes.
-pub fn m25p_wait(packed: &mut [u8], array: &mut [u8], ticks: u32) -> u64
-    ensures { CalledOn (timed_c (λ c. wait_call c ticks) packed.old array.old) packed.old result packed.new array.new }
+// A call on the record and the array: refused where the packed bytes are of no sound record, and the next record is stored where it answers 0.
+fn timed<F: FnOnce(Device, &mut [u8]) -> Checked>(
+    packed: &mut [u8],
+    array: &mut [u8],
+    call: F,
+) -> u64
+    requires { F.IsAlwaysCallable call }
+    ensures { (meant : Chip → Timed) → Does F.FnOnce call meant → Keeps meant → CalledOn (timed_c meant packed.old array.old) packed.old result packed.new array.new }
 {
     let came = unpack(packed);
     if came.answer != 0 {
         return bare(came.answer);
     }
-    let done = came.device.wait(array, ticks);
+    let done = call(came.device, array);
     store(done.answer, done.device, packed);
     bare(done.answer)
+}
+
+// Waits `ticks`: on the last tick of a cycle its effect comes.
+pub fn m25p_wait(packed: &mut [u8], array: &mut [u8], ticks: u32) -> u64
+    ensures { CalledOn (timed_c (λ c. wait_call c ticks) packed.old array.old) packed.old result packed.new array.new }
+{
+    timed(packed, array, |device, array| device.wait(array, ticks))
 }
 
 // Powers up: a cycle is completed.
 pub fn m25p_power_up(packed: &mut [u8], array: &mut [u8]) -> u64
     ensures { CalledOn (timed_c power_up_call packed.old array.old) packed.old result packed.new array.new }
 {
-    let came = unpack(packed);
-    if came.answer != 0 {
-        return bare(came.answer);
-    }
-    let done = came.device.power_up(array);
-    store(done.answer, done.device, packed);
-    bare(done.answer)
+    timed(packed, array, |device, array| device.power_up(array))
 }
 
 // Power is lost and comes back: a cycle is cut as the mask says; a settings write is complete on yes, which is any number but 0.
 pub fn m25p_loss(packed: &mut [u8], array: &mut [u8], mask: &[u8], yes: u32) -> u64
     ensures { CalledOn (timed_c (λ c. loss_call c mask.now (high yes)) packed.old array.old) packed.old result packed.new array.new }
 {
-    let came = unpack(packed);
-    if came.answer != 0 {
-        return bare(came.answer);
-    }
-    let done = came.device.loss(array, mask, yes != 0);
-    store(done.answer, done.device, packed);
-    bare(done.answer)
+    timed(
+        packed,
+        array,
+        |device, array| device.loss(array, mask, yes != 0),
+    )
 }
 
 // A run over samples of the pins: the transactions carried out in order, the bits missing in them, and one output byte for each sample.
@@ -238,8 +243,7 @@ pub fn m25p_bus_transact(
     if answer.number != 0 {
         return packed_answer(answer);
     }
-    let next = done.row;
-    rows::write(next, at, at + 1, row);
+    rows::write(&done.row[at..at + 1], at, row);
     packed_answer(answer)
 }
 
@@ -256,7 +260,6 @@ pub fn m25p_bus_wait(row: &mut [u8], array: &mut [u8], ticks: u32) -> u64
     if done.answer != 0 {
         return bare(done.answer);
     }
-    let next = done.row;
-    rows::write(next, 0, n, row);
+    rows::write(&done.row[..n], 0, row);
     bare(0)
 }

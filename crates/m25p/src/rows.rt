@@ -1,5 +1,5 @@
 // A row of packed records, one after another.
-ghost use Rattle.std.specs.Prelude.{◌≡◌, true, ◌++◌, ◌≤◌, ◌*◌, ◌-◌, ◌/◌, length, take, drop};
+ghost use Rattle.std.specs.Prelude.{◌≡◌, true, ◌++◌, ◌+◌, ◌≤◌, ◌*◌, ◌/◌, length, take, drop};
 ghost use Rattle.bus.specs.Bus.{all_sound};
 ghost use Rattle.m25p.specs.Bus.{records_in, packed_row};
 
@@ -12,30 +12,24 @@ pub(crate) fn read(row: &[u8]) -> [Device; PLACES]
     ensures { take (length row.now / 304) result ≡ take 9 (records_in row.now) }
 {
     let mut records = [Device::zero(); PLACES];
-    let count = slices::least(row.len() / LENGTH, PLACES);
-    let mut at = 0;
-    while at < count {
-        let from = at * LENGTH;
-        let to = from + LENGTH;
-        let came = unpack(&row[from..to]);
-        let device = came.device;
-        records[at] = device;
-        at += 1;
+    let (packings, _) = row.as_chunks::<LENGTH>();
+    let first = &packings[..packings.len().min(PLACES)];
+    for (at, packed) in first.iter().enumerate() {
+        records[at] = unpack(packed).device;
     }
     records
 }
 
-// The records `first` up to `end`, which are sound, written at their places.
-pub(crate) fn write(records: [Device; PLACES], first: usize, end: usize, row: &mut [u8])
-    requires { (first ≤ end) × (end ≤ 9) × (end * 304 ≤ length row.old) × (all_sound (take (end - first) (drop first records)) ≡ true) }
-    ensures { row.new ≡ take (first * 304) row.old ++ (packed_row (take (end - first) (drop first records)) ++ drop (end * 304) row.old) }
+// Sound records written one after another, from place `first` of the row on.
+pub(crate) fn write(records: &[Device], first: usize, row: &mut [u8])
+    requires { ((first + length records.now) * 304 ≤ length row.old) × (all_sound records.now ≡ true) }
+    ensures { row.new ≡ take (first * 304) row.old ++ (packed_row records.now ++ drop ((first + length records.now) * 304) row.old) }
 {
-    let mut at = first;
-    while at < end {
-        let from = at * LENGTH;
+    // the bytes by their place: what `as_chunks_mut` lends out leaves nothing known of the slice
+    let mut from = first * LENGTH;
+    for record in records {
         let to = from + LENGTH;
-        let device = records[at];
-        device::packing::write(device, &mut row[from..to]);
-        at += 1;
+        device::packing::write(*record, &mut row[from..to]);
+        from = to;
     }
 }

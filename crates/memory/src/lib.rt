@@ -150,7 +150,7 @@ pub fn cut_write(array: &mut [u8], address: usize, count: usize, mask: &[u8])
 pub fn read_rolling(array: &[u8], address: usize, out: &mut [u8])
     ensures { out.new ≡ map_at (λ i x. rolled array.now address i) out.old }
 {
-    if array.len() == 0 {
+    if array.is_empty() {
         slices::fill(out, 0xFF);
         return;
     }

@@ -2,15 +2,9 @@
 #![tactic(auto)]
 
 use device::cycle::{Cycle, Kind};
-use device::locks::REGISTERS;
 use device::packing::LENGTH;
 use device::{Device, Mode, packing};
 use std::io;
-
-// Prints a space and an answer.
-fn print_answer(rt: &impl Print, n: u8) -> io::Result<()> {
-    show::print_number(rt, show::wide(n))
-}
 
 // A record with durations 1,000,000, 1, 258 and 65,536.
 fn record(part: u8, bp: u8, srwd: bool, latch: bool, mode: Mode) -> Device {
@@ -89,25 +83,23 @@ fn naming() -> Device {
 // Prints slots; those that are all the same byte as that byte and two dots.
 fn print_slots(rt: &impl Print, slots: &[u8]) -> io::Result<()> {
     let first = slices::byte_at(slots, 0);
-    rt.write_all(b" ")?;
     if show::all_are(slots, 0, first) {
-        print!(rt; "{first:02x}")?;
-        rt.write_all(b"..")?;
+        print!(rt; " {first:02x}..")
     } else {
-        show::print_bytes(rt, slots)?;
+        rt.write_all(b" ")?;
+        show::print_bytes(rt, slots)
     }
-    Ok(())
 }
 
 // Prints a packing: 36 bytes, the slots, and what stands behind them.
 fn print_packing(rt: &impl Print, bytes: &[u8]) -> io::Result<()> {
-    let from = slices::least(36, bytes.len());
-    let behind = slices::least(292, bytes.len());
+    let (head, rest) = bytes.split_at(bytes.len().min(36));
+    let (slots, behind) = rest.split_at(rest.len().min(256));
     rt.write_all(b" ")?;
-    show::print_bytes(rt, slices::front(bytes, 36))?;
-    print_slots(rt, &bytes[from..behind])?;
+    show::print_bytes(rt, head)?;
+    print_slots(rt, slots)?;
     rt.write_all(b" ")?;
-    show::print_bytes(rt, &bytes[behind..])
+    show::print_bytes(rt, behind)
 }
 
 // Packs a record over bytes of 55, unpacks the bytes and packs what came: the three answers, the bytes, and whether both packings are the same.
@@ -118,11 +110,9 @@ fn round(rt: &impl Print, name: &[u8], d: Device) -> io::Result<()> {
     let u = packing::unpack(&bytes);
     let q = packing::pack(u.device, &mut again);
     rt.write_all(name)?;
-    print_answer(rt, p)?;
-    print_answer(rt, u.answer)?;
-    print_answer(rt, q)?;
+    print!(rt; " {p} {} {q}", u.answer)?;
     print_packing(rt, &bytes)?;
-    show::print_choice(rt, show::same(&bytes, &again), b" same\n", b" differ\n")
+    show::print_choice(rt, bytes == again, b" same\n", b" differ\n")
 }
 
 // Packs a record into a buffer of 55s.
@@ -135,7 +125,7 @@ fn pack_over(d: Device, out: &mut [u8]) -> u8 {
 fn pack_into(rt: &impl Print, name: &[u8], d: Device, out: &mut [u8]) -> io::Result<()> {
     let p = pack_over(d, out);
     rt.write_all(name)?;
-    print_answer(rt, p)?;
+    print!(rt; " {p}")?;
     print_packing(rt, out)?;
     rt.write_all(b"\n")
 }
@@ -146,56 +136,6 @@ fn pack_whole(rt: &impl Print, name: &[u8], d: Device) -> io::Result<()> {
     pack_into(rt, name, d, &mut out)
 }
 
-// One byte set, where there is one.
-fn put(s: &mut [u8], at: usize, v: u8) {
-    if at < s.len() {
-        s[at] = v;
-    }
-}
-
-// Whether a mode is standby.
-fn is_standby(mode: Mode) -> bool {
-    match mode {
-        Mode::Standby => true,
-        Mode::Busy(_) => false,
-        Mode::Deep => false,
-    }
-}
-
-// Whether a cycle is none, all zero.
-fn is_none(c: Cycle) -> bool {
-    let kind = c.kind;
-    let slots = c.slots;
-    let settings = (c.bp == 0) & !c.srwd;
-    let idle = match kind {
-        Kind::Idle => true,
-        Kind::Page => false,
-        Kind::Sector => false,
-        Kind::All => false,
-        Kind::Settings => false,
-        Kind::PageWrite => false,
-        Kind::PageErase => false,
-        Kind::Subsector => false,
-    };
-    idle & settings & (c.address == 0) & (c.named == 0) & show::all_are(&slots, 0, 0)
-}
-
-// Whether no lock register is set.
-fn none_locked(locks: [u8; REGISTERS]) -> bool {
-    show::all_are(&locks, 0, 0)
-}
-
-// Whether a record is the all-zero one.
-fn is_zero(d: Device) -> bool {
-    let mode = d.mode;
-    let short = (d.program == 0) & (d.sector_erase == 0);
-    let long = (d.bulk_erase == 0) & (d.write_status == 0);
-    let settings = (d.part == 0) & (d.bp == 0) & (d.status() == 0);
-    let cycle = d.cycle;
-    let locks = d.locks;
-    short & long & settings & is_standby(mode) & is_none(cycle) & none_locked(locks)
-}
-
 // Unpacks bytes: the answer, the answer that packing the record handed back gives, and whether it is the all-zero one.
 fn unpack_from(rt: &impl Print, name: &[u8], bytes: &[u8]) -> io::Result<()> {
     let mut out = [0; LENGTH];
@@ -203,16 +143,17 @@ fn unpack_from(rt: &impl Print, name: &[u8], bytes: &[u8]) -> io::Result<()> {
     let d = u.device;
     let p = packing::pack(d, &mut out);
     rt.write_all(name)?;
-    print_answer(rt, u.answer)?;
-    print_answer(rt, p)?;
-    show::print_choice(rt, is_zero(d), b" zero\n", b" given\n")
+    print!(rt; " {} {p}", u.answer)?;
+    show::print_choice(rt, d == Device::zero(), b" zero\n", b" given\n")
 }
 
 // Unpacks a record's bytes after one of them was set.
 fn damaged(rt: &impl Print, name: &[u8], d: Device, at: usize, v: u8) -> io::Result<()> {
     let mut bytes = [0; LENGTH];
     packing::pack(d, &mut bytes);
-    put(&mut bytes, at, v);
+    if let Some(byte) = bytes.get_mut(at) {
+        *byte = v;
+    }
     unpack_from(rt, name, &bytes)
 }
 
@@ -256,7 +197,7 @@ fn sound_m25pe40s(rt: &impl Print) -> io::Result<()> {
     )
 }
 
-// Records that are not sound, and buffers of another length: 6, and 8 before it, with nothing written.
+// Records that are not sound: 6, with nothing written.
 fn refused_packs(rt: &impl Print) -> io::Result<()> {
     pack_whole(rt, b"pack-zero", Device::zero())?;
     pack_whole(
@@ -285,8 +226,11 @@ fn refused_packs(rt: &impl Print) -> io::Result<()> {
         rt,
         b"pack-M25P128-deep",
         record(4, 0, false, false, Mode::Deep),
-    )?;
-    // busy without a cycle, a cycle outside one, an address and a BP that the part has not
+    )
+}
+
+// The same of the cycle: none while busy, one outside busy, an address and a BP that the part has not.
+fn refused_cycles(rt: &impl Print) -> io::Result<()> {
     pack_whole(
         rt,
         b"pack-busy-no-cycle",
@@ -306,7 +250,11 @@ fn refused_packs(rt: &impl Print) -> io::Result<()> {
         rt,
         b"pack-new-bp-4",
         running(0, 0, false, Cycle::settings(false, 4), 2),
-    )?;
+    )
+}
+
+// Buffers of another length: 8, and before 6, with nothing written.
+fn refused_lengths(rt: &impl Print) -> io::Result<()> {
     let mut short = [0; LENGTH - 1];
     let mut long = [0; LENGTH + 1];
     pack_into(rt, b"pack-short", standby(), &mut short)?;
@@ -483,6 +431,8 @@ fn main(rt: HostRuntime) -> io::Result<()> {
     sound_ones(&rt)?;
     sound_m25pe40s(&rt)?;
     refused_packs(&rt)?;
+    refused_cycles(&rt)?;
+    refused_lengths(&rt)?;
     refused_m25pe40s(&rt)?;
     damaged_in_standby(&rt)?;
     damaged_numbers(&rt)?;

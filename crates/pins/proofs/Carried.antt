@@ -3,10 +3,11 @@
 use mathlib.Core.Path.{◌≡◌, refl, sym, ap, ◌∙◌}
 use mathlib.Core.Bool.{Bool, true, false, cond, not, ◌&&◌, ◌||◌, false≢true}
 use mathlib.Core.List.{List, [], ◌∷◌, ◌++◌}
-use Prim.Native.Nat.{ℕ, ◌+◌, ◌≤◌, ◌<◌}
+use Prim.Native.Nat.{ℕ, ◌+◌, ◌-◌, ◌/◌, ◌%◌, ◌^◌, ◌≤◌, ◌<◌}
+use native.Mathlib.Omega.{arith}
 use native.Mathlib.Nat.{add-zero}
 use native.Mathlib.Numerals.{add-one}
-use borrow.Author.Tests.{eq-eqb, eqb-true}
+use borrow.Author.Tests.{eq-eqb, eqb-true, eqb-false}
 use lib.Dec.{eqb, lit≤}
 use lib.ListN.{length, get_or, take, set, length-append}
 use lib.Seq.{take-suc-set}
@@ -20,9 +21,9 @@ use Rattle.chip.proofs.Events.{sent-room, missed-append}
 use Rattle.chip.proofs.Missed.{is_sent, missed-few}
 use Rattle.pins.specs.declared.levels.Levels.{Levels}
 use Rattle.pins.specs.declared.underway.Underway.{Underway}
-use Rattle.pins.specs.Pins.{levels_of, Pins, changes, ends, takes, moves, Transaction, Taking, anew, shifted, bit_taken, moved_on, clocked, next_taking, next_found, Seen, step, seen}
-use Rattle.pins.specs.Run.{Chip, carried_out, events_of, carried_all, chip_after, missed_in, bit_in}
-use Rattle.pins.specs.Counted.{underway_of, none_yet, bit_now, shown_on, stored, one_more, Clocked, ended_with, missed_with}
+use Rattle.pins.specs.Pins.{levels_of, Pins, changes, ends, takes, moves, Transaction, Shown, nothing, after, Taking, anew, shifted, bit_taken, moved_on, clocked, next_taking, next_found, Seen, step, seen}
+use Rattle.pins.specs.Run.{Chip, carried_out, events_of, carried_all, chip_after, missed_in, bit_in, bit_shown}
+use Rattle.pins.specs.Counted.{underway_of, none_yet, bit_now, level, bit_held, shown_on, stored, one_more, Clocked, ended_with, missed_with}
 use Rattle.pins.proofs.Seen.{seen_next, unchanged}
 
 -- ---- a transaction carried out
@@ -126,14 +127,25 @@ pub none-yet : (c : Chip) → none_yet ≡ underway_of c anew
 unfolding underway_of none_yet anew
 none-yet c = rw (driven-first c.device c.array)
 
-bit_is : (x : Driven) (k : ℕ) → bit_now (line_byte x).driven (line_byte x).byte k ≡ bit_in x k
-unfolding bit_now
+-- the level of a bit is the bit
+two : (n : ℕ) → cond (eqb (n % 2) 1) 1 0 ≡ n % 2
+two n = let h : n % 2 < 2 = omega arith in go (eqb (n % 2) 1) refl
+  where
+    go : (b : Bool) → eqb (n % 2) 1 ≡ b → cond b 1 0 ≡ n % 2
+    go true e = let z = eqb-true (n % 2) 1 e in omega arith
+    go false e = let z = eqb-false (n % 2) 1 e in omega arith
+
+bit_is : (x : Driven) (k : ℕ) → level (bit_now (line_byte x) k) ≡ bit_in x k
 bit_is silent k = refl
-bit_is (drives b) k = refl
+bit_is (drives b) k = two (b / 2 ^ (7 - k))
+
+pub held-is : (c : Chip) (x : Shown) → level (bit_held c x) ≡ bit_shown c x
+held-is c nothing = refl
+held-is c (after sent k) = bit_is (driven c.device c.array sent) k
 
 moved-on : (c : Chip) (t : Taking) → shown_on (underway_of c t) ≡ underway_of c (moved_on t)
 unfolding shown_on underway_of moved_on
-moved-on c t = rw (bit_is (driven c.device c.array t.sent) t.pulses)
+moved-on c t = refl
 
 -- the eighth bit makes a byte
 pub byte_more : (p : Pins) (now : Levels) (t : Taking) → takes p now ≡ true → t.pulses ≡ 7 → length (clocked p now t).sent ≡ length t.sent + 1

@@ -18,13 +18,13 @@ use Rattle.pins.specs.declared.levels.Levels.{Levels}
 use Rattle.pins.specs.declared.underway.Underway.{Underway}
 use Rattle.pins.specs.Pins.{levels_of, Pins, on_select, changes, ends, takes, Taking, anew, clocked, next_taking, Seen, at_rest, step, seen, too_long}
 use Rattle.pins.specs.Run.{Chip, carried_out, chip_after, missed_in, output_of, output_after, output_at}
-use Rattle.pins.specs.Counted.{pins_of, selected, held_after, underway_of, none_yet, Clocked, ended_with, missed_with, CarriedOut, CarriedAll}
+use Rattle.pins.specs.Counted.{level, pins_of, selected, held_after, underway_of, none_yet, Clocked, ended_with, missed_with, CarriedOut, CarriedAll}
 use Rattle.pins.proofs.Seen.{seen_next, at-rest, select-is, pins-next, few-begun, few-pulses, short}
-use Rattle.pins.proofs.Carried.{ending, missed_by, ended_is, missed-is, chip-next, missed-next, missed-most, no_end, none-yet, byte_more, clock-more}
+use Rattle.pins.proofs.Carried.{held-is, ending, missed_by, ended_is, missed-is, chip-next, missed-next, missed-most, no_end, none-yet, byte_more, clock-more}
 
 -- the record d, the array a and the output o are those that the run came with
-pub record Held (d : Device) (a samples o : List ℕ) (i : ℕ) (array output sent : List ℕ) (device : Device) (missing before : ℕ) (holding : Bool) (u : Underway) : Type 0 where
-  pub pins : pins_of (levels_of before) holding ≡ (seen (take i samples)).pins
+pub record Held (d : Device) (a samples o : List ℕ) (i : ℕ) (array output sent : List ℕ) (device : Device) (missing : ℕ) (was : Levels) (holding : Bool) (u : Underway) : Type 0 where
+  pub pins : pins_of was holding ≡ (seen (take i samples)).pins
   pub under : u ≡ underway_of (chip_after d a (take i samples)) (seen (take i samples)).taking
   pub bytes : take (length (seen (take i samples)).taking.sent) sent ≡ (seen (take i samples)).taking.sent
   pub chip : ◌≡◌ {A = Chip} (record { device = device; array = array }) (chip_after d a (take i samples))
@@ -37,7 +37,7 @@ pub record Begun (d : Device) (a samples : List ℕ) (i : ℕ) (now : Levels) (a
   pub under : u ≡ underway_of (chip_after d a (take (i + 1) samples)) (cond (changes (seen (take i samples)).pins now) anew (seen (take i samples)).taking)
   pub missed : missing ≡ missed_in d a (take (i + 1) samples)
 
-pub held_first : (d : Device) (a samples o sent : List ℕ) → Held d a samples o 0 a o sent d 0 25 false none_yet
+pub held_first : (d : Device) (a samples o sent : List ℕ) → Held d a samples o 0 a o sent d 0 (levels_of 25) false none_yet
 unfolding seen at_rest chip_after missed_in anew
 held_first d a samples o sent =
     record { pins = at-rest; under = none-yet (record { device = d; array = a }); bytes = refl; chip = refl; missed = refl; shown = window-start 0 (output_at d a samples) o }
@@ -52,17 +52,17 @@ unfolding underway_of
 pulses-is c t e = ap (λ (u : Underway). u.pulses) e
 
 -- at most 65,536 bytes
-pub whole-few : {d : Device} {a samples o : List ℕ} {i : ℕ} {array output sent : List ℕ} {device : Device} {missing before : ℕ} {holding : Bool} {u : Underway}
-    → Held d a samples o i array output sent device missing before holding u → too_long samples ≡ false → u.whole ≤ 65536
+pub whole-few : {d : Device} {a samples o : List ℕ} {i : ℕ} {array output sent : List ℕ} {device : Device} {missing : ℕ} {was : Levels} {holding : Bool} {u : Underway}
+    → Held d a samples o i array output sent device missing was holding u → too_long samples ≡ false → u.whole ≤ 65536
 whole-few {d} {a} {samples} {o} {i} h e = rw (whole_is (chip_after d a (take i samples)) (seen (take i samples)).taking h.under) (short samples i e)
 
-shows : (c : Chip) (x : Seen) (now : Levels) (holding : Bool) {u : Underway} → pins_of now holding ≡ x.pins → u ≡ underway_of c x.taking → cond (now.select || holding) 2 u.bit ≡ output_of c x
+shows : (c : Chip) (x : Seen) (now : Levels) (holding : Bool) {u : Underway} → pins_of now holding ≡ x.pins → u ≡ underway_of c x.taking → cond (now.select || holding) 2 (level u.bit) ≡ output_of c x
 unfolding pins_of underway_of output_of
-shows c x now holding p e = rw (← p, e)
+shows c x now holding p e = rw (← p, e, held-is c x.taking.shown)
 
 module _ (d : Device) (a samples o : List ℕ) (i : ℕ) (lt : i < length samples) (fine : too_long samples ≡ false)
-    {array output sent : List ℕ} {device : Device} {missing before : ℕ} {holding : Bool} {u : Underway} (h : Held d a samples o i array output sent device missing before holding u)
-    {was now : Levels} (ew : was ≡ levels_of before) (en : now ≡ levels_of (get_or samples i 0)) where
+    {array output sent : List ℕ} {device : Device} {missing : ℕ} {was : Levels} {holding : Bool} {u : Underway} (h : Held d a samples o i array output sent device missing was holding u)
+    {now : Levels} (en : now ≡ levels_of (get_or samples i 0)) where
   abbrev x : Seen
   x = seen (take i samples)
 
@@ -80,7 +80,7 @@ module _ (d : Device) (a samples o : List ℕ) (i : ℕ) (lt : i < length sample
   taking-is = ap (λ (z : Seen). z.taking) next-is
 
   pins-are : pins_of was holding ≡ x.pins
-  pins-are = rw ew h.pins
+  pins-are = h.pins
 
   chip-is : chip_after d a (take (i + 1) samples) ≡ cond (ends x.pins now) (carried_out (chip_after d a (take i samples)) (ending x.taking now)) (chip_after d a (take i samples))
   chip-is = rw en (chip-next d a samples i lt)
@@ -150,8 +150,8 @@ module _ (d : Device) (a samples o : List ℕ) (i : ℕ) (lt : i < length sample
 
     -- one sample more
     pub held_next : {u'' : Underway} {holding' : Bool} {sent' : List ℕ} {v : ℕ} → length output ≡ length o → length samples ≤ length o → 65536 ≤ length sent
-        → Clocked u' device' array' sent (selected was now held) now u'' sent' → holding' ≡ held_after now held → v ≡ cond (now.select || holding') 2 u''.bit
-        → Held d a samples o (i + 1) array' (set output i v) sent' device' missing' (get_or samples i 0) holding' u''
+        → Clocked u' device' array' sent (selected was now held) now u'' sent' → holding' ≡ held_after now held → v ≡ cond (now.select || holding') 2 (level u''.bit)
+        → Held d a samples o (i + 1) array' (set output i v) sent' device' missing' now holding' u''
     unfolding output_at output_after step
     held_next {u''} {holding'} {sent'} {v} len fits room q e ev =
         let c = chip_after d a (take (i + 1) samples) in
@@ -162,7 +162,7 @@ module _ (d : Device) (a samples o : List ℕ) (i : ℕ) (lt : i < length sample
         let p : pins_of now holding' ≡ y.pins = rw (e, next-is, ← pins-are) (pins-next was holding now eh) in
         let w : u'' ≡ underway_of c y.taking = rw taking-is k.0 in
         record {
-          pins = rw (← en) p;
+          pins = p;
           under = w;
           bytes = rw taking-is k.1;
           chip = b.chip;
@@ -171,8 +171,8 @@ module _ (d : Device) (a samples o : List ℕ) (i : ℕ) (lt : i < length sample
         }
 
 -- the run is over
-pub held-last : {d : Device} {a samples o : List ℕ} {i : ℕ} {array output sent : List ℕ} {device : Device} {missing before : ℕ} {holding : Bool} {u : Underway}
-    → Held d a samples o i array output sent device missing before holding u → i ≡ length samples → CarriedAll d a samples o (record { device = device; missing = missing }) array output
+pub held-last : {d : Device} {a samples o : List ℕ} {i : ℕ} {array output sent : List ℕ} {device : Device} {missing : ℕ} {was : Levels} {holding : Bool} {u : Underway}
+    → Held d a samples o i array output sent device missing was holding u → i ≡ length samples → CarriedAll d a samples o (record { device = device; missing = missing }) array output
 held-last {d} {a} {samples} {o} {i} {array} {output} {sent} {device} h e =
     let t : take i samples ≡ samples = take_all i samples (omega arith) in
     let c : ◌≡◌ {A = Chip} (record { device = device; array = array }) (chip_after d a samples) = h.chip ∙ ap (chip_after d a) t in

@@ -9,10 +9,11 @@ use native.Mathlib.Omega.{arith}
 use borrow.Author.Tests.{eqb-true, eqb-false, ltb-true, ltb-false, le-leb, lt-leb}
 use lib.Dec.{eqb, ltb, leb, lit<, lit≤}
 use lib.ListN.{length, get_or, take, drop, length-append, take-append-drop}
-use lib.Seq.{take-suc, drop-cons}
+use lib.Seq.{take-suc}
+use Rattle.std.specs.List.{list_any}
 use Rattle.slices.proofs.Choices.{cond_ind, cond-case}
 use Rattle.pins.specs.declared.levels.Levels.{Levels}
-use Rattle.pins.specs.Pins.{levels_of, Pins, rest, on_select, on_clock, on_hold, next_pins, changes, takes, moves, Taking, anew, shifted, bit_taken, moved_on, clocked, next_taking, Seen, at_rest, step, seen_from, seen, too_long, odd_from}
+use Rattle.pins.specs.Pins.{levels_of, Pins, rest, on_select, on_clock, on_hold, next_pins, changes, takes, moves, Taking, anew, shifted, bit_taken, moved_on, clocked, next_taking, Seen, at_rest, step, seen_from, seen, too_long, odd_from, odd_samples}
 use Rattle.pins.specs.Counted.{pins_of, selected, held_after, bits_taken, next_count}
 
 -- ---- one sample more
@@ -173,18 +174,25 @@ short samples i h =
     (λ x now p e. ltb-false 65536 (length (next_taking x.pins now x.taking).sent) (neither x.long (ltb 65536 (length (next_taking x.pins now x.taking).sent)) e).1) (take i samples)
     (long-stays (seen (take i samples)) (drop i samples) (ap (λ (x : Seen). x.long) (sym (from-append at_rest (take i samples) (drop i samples)) ∙ ap (λ (xs : List ℕ). seen_from at_rest xs) (take-append-drop i samples)) ∙ h))
 
--- one sample more for the test of bits 5 to 7
-pub odd-next : (odd : Bool) (samples : List ℕ) (i : ℕ) → i < length samples → odd_from odd (drop i samples) ≡ odd_from (odd || leb 32 (get_or samples i 0)) (drop (i + 1) samples)
-odd-next odd samples i h = rw (drop-cons samples i 0 h, add-one i)
+-- the test of bits 5 to 7
+odd-or : (odd : Bool) (samples : List ℕ) → odd_from odd samples ≡ odd || list_any (leb 32) samples
+odd-or true [] = refl
+odd-or false [] = refl
+odd-or true (s ∷ samples) = odd-or true samples
+odd-or false (s ∷ samples) = odd-or (leb 32 s) samples
+
+pub odd_any : (samples : List ℕ) → list_any (leb 32) samples ≡ odd_samples samples
+unfolding odd_samples
+odd_any samples = sym (odd-or false samples)
 
 -- what the code holds after i samples while it looks for a transaction above 65,536 bytes
-pub record Counting (samples : List ℕ) (i before : ℕ) (holding : Bool) (n : ℕ) (l : Bool) : Type 0 where
-  pub pins : pins_of (levels_of before) holding ≡ (seen (take i samples)).pins
+pub record Counting (samples : List ℕ) (i : ℕ) (was : Levels) (holding : Bool) (n : ℕ) (l : Bool) : Type 0 where
+  pub pins : pins_of was holding ≡ (seen (take i samples)).pins
   pub count : n ≡ bits_taken (seen (take i samples)).taking
   pub long : l ≡ (seen (take i samples)).long
   pub few : n ≤ i
 
-pub counting-first : (samples : List ℕ) → Counting samples 0 25 false 0 false
+pub counting-first : (samples : List ℕ) → Counting samples 0 (levels_of 25) false 0 false
 unfolding seen at_rest anew
 counting-first samples = record { pins = at-rest; count = refl; long = refl; few = lit≤ tt }
 
@@ -198,17 +206,17 @@ count-few n was now held = go (takes (selected was now held) now) (changes (pins
     go false true = omega arith
     go false false = omega arith
 
-pub counting-next : (samples : List ℕ) (i : ℕ) → i < length samples → {before : ℕ} {holding : Bool} {n : ℕ} {l : Bool} {was now : Levels} {held : Bool} {n' : ℕ} {holding' : Bool}
-    → was ≡ levels_of before → now ≡ levels_of (get_or samples i 0) → held ≡ (on_select (pins_of was holding) now).holding → n' ≡ next_count n was now held → holding' ≡ held_after now held
-    → Counting samples i before holding n l → Counting samples (i + 1) (get_or samples i 0) holding' n' (l || leb 524296 n')
+pub counting-next : (samples : List ℕ) (i : ℕ) → i < length samples → {holding : Bool} {n : ℕ} {l : Bool} {was now : Levels} {held : Bool} {n' : ℕ} {holding' : Bool}
+    → now ≡ levels_of (get_or samples i 0) → held ≡ (on_select (pins_of was holding) now).holding → n' ≡ next_count n was now held → holding' ≡ held_after now held
+    → Counting samples i was holding n l → Counting samples (i + 1) now holding' n' (l || leb 524296 n')
 unfolding step
-counting-next samples i h {before} {holding} {n} {l} {was} {now} {held} {n'} {holding'} ew en eh ec es k =
+counting-next samples i h {holding} {n} {l} {was} {now} {held} {n'} {holding'} en eh ec es k =
     let x = seen (take i samples) in
-    let p : pins_of was holding ≡ x.pins = rw ew k.pins in
+    let p : pins_of was holding ≡ x.pins = k.pins in
     let s : seen (take (i + 1) samples) ≡ step x now = seen_next samples i h ∙ ap (step x) (sym en) in
     let c : n' ≡ bits_taken (next_taking x.pins now x.taking) = ec ∙ (rw (k.count, ← p) (count_next was holding now x.taking eh)) in
     record {
-      pins = rw (es, ← en, s, ← p) (pins-next was holding now eh);
+      pins = rw (es, s, ← p) (pins-next was holding now eh);
       count = rw s c;
       long = rw (s, c, k.long, long-bits (next_taking x.pins now x.taking) (few-next x.pins now x.taking (few-pulses (take i samples))));
       few = omega (arith, count-few n was now held, k.few);

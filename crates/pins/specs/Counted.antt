@@ -1,5 +1,5 @@
 -- A run as the code holds it: the levels before and a flag for the pins, numbers in place of the list of bytes, the byte that is driven and the bit that shows.
-use Rattle.std.specs.Prelude.{◌≡◌, Bool, false, cond, not, List, ℕ, ◌+◌, ◌-◌, ◌*◌, ◌/◌, ◌%◌, ◌^◌, eqb, length, take, set}
+use Rattle.std.specs.Prelude.{◌≡◌, Bool, Option, Some, None, cond, not, List, ℕ, ◌+◌, ◌-◌, ◌*◌, ◌/◌, ◌%◌, ◌^◌, eqb, length, take, set}
 use Rattle.slices.specs.Changed.{map_at, window}
 use Rattle.device.specs.declared.Device.{Device}
 use Rattle.chip.specs.Line.{driven}
@@ -8,9 +8,9 @@ use Rattle.chip.specs.Outcome.{transacted}
 use Rattle.chip.specs.Events.{left}
 use Rattle.pins.specs.declared.levels.Levels.{Levels}
 use Rattle.pins.specs.declared.underway.Underway.{Underway}
-use Rattle.pins.specs.Pins.{Pins, changes, takes, moves, ends, shifted, Taking}
+use Rattle.pins.specs.Pins.{Pins, changes, takes, moves, ends, shifted, Shown, nothing, after, Taking}
 use Rattle.pins.specs.declared.Tally.{Tally}
-use Rattle.pins.specs.Run.{Chip, bit_shown, chip_after, missed_in, output_at}
+use Rattle.pins.specs.Run.{Chip, chip_after, missed_in, output_at}
 
 -- ---- the pins
 
@@ -38,28 +38,38 @@ next_count n was now held = cond (takes (selected was now held) now) (cond (chan
 
 -- ---- the transaction under way
 
+-- bit 7 - k of a driven byte, as its level
+abbrev pub bit_now : Option ℕ → ℕ → Option Bool
+bit_now None k = None
+bit_now (Some byte) k = Some (eqb (byte / 2 ^ (7 - k) % 2) 1)
+
+-- the output byte of a bit: 2 where none shows
+abbrev pub level : Option Bool → ℕ
+level None = 2
+level (Some bit) = cond bit 1 0
+
+-- the bit that is shown, as the code holds it
+abbrev pub bit_held : Chip → Shown → Option Bool
+bit_held c nothing = None
+bit_held c (after sent k) = bit_now (line_byte (driven c.device c.array sent)) k
+
 unfoldable pub underway_of : Chip → Taking → Underway
 underway_of c t =
     record {
       whole = length t.sent;
       pulses = t.pulses;
       register = t.register;
-      driven = (line_byte (driven c.device c.array t.sent)).driven;
-      byte = (line_byte (driven c.device c.array t.sent)).byte;
-      bit = bit_shown c t.shown;
+      driven = line_byte (driven c.device c.array t.sent);
+      bit = bit_held c t.shown;
     }
 
 -- no bit taken, nothing driven
 unfoldable pub none_yet : Underway
-none_yet = record { whole = 0; pulses = 0; register = 0; driven = false; byte = 0; bit = 2 }
-
--- bit 7 - k of a driven byte, 2 where nothing is driven
-unfoldable pub bit_now : Bool → ℕ → ℕ → ℕ
-bit_now on byte k = cond on (byte / 2 ^ (7 - k) % 2) 2
+none_yet = record { whole = 0; pulses = 0; register = 0; driven = None; bit = None }
 
 -- the output moves on
 unfoldable pub shown_on : Underway → Underway
-shown_on u = record { whole = u.whole; pulses = u.pulses; register = u.register; driven = u.driven; byte = u.byte; bit = bit_now u.driven u.byte u.pulses }
+shown_on u = record { whole = u.whole; pulses = u.pulses; register = u.register; driven = u.driven; bit = bit_now u.driven u.pulses }
 
 -- the bytes with one bit more: the eighth makes a whole byte, which is stored
 unfoldable pub stored : List ℕ → Underway → Bool → List ℕ
@@ -73,11 +83,10 @@ one_more u d array sent bit =
       whole = u.whole + 1;
       pulses = 0;
       register = shifted u.register bit;
-      driven = (line_byte (driven d array (take (u.whole + 1) (set sent u.whole (shifted u.register bit))))).driven;
-      byte = (line_byte (driven d array (take (u.whole + 1) (set sent u.whole (shifted u.register bit))))).byte;
+      driven = line_byte (driven d array (take (u.whole + 1) (set sent u.whole (shifted u.register bit))));
       bit = u.bit;
     })
-    (record { whole = u.whole; pulses = u.pulses + 1; register = shifted u.register bit; driven = u.driven; byte = u.byte; bit = u.bit })
+    (record { whole = u.whole; pulses = u.pulses + 1; register = shifted u.register bit; driven = u.driven; bit = u.bit })
 
 -- what taking a bit promises
 pub record Taken (u : Underway) (d : Device) (array sent : List ℕ) (bit : Bool) (u' : Underway) (sent' : List ℕ) : Type 0 where

@@ -1,10 +1,12 @@
 // The pins: their levels in a sample, and what happens from one sample to the next.
+#![tactic(auto, unfolding(crate::specs::Pins::levels_of, crate::specs::Pins::on_select, crate::specs::Pins::changes, crate::specs::Pins::takes, crate::specs::Pins::moves, crate::specs::Pins::ends, crate::specs::Counted::pins_of, crate::specs::Counted::selected, crate::specs::Counted::held_after))]
+
 ghost use Rattle.std.specs.Prelude.{◌≡◌, Bool};
 ghost use Rattle.pins.specs.Pins.{levels_of, on_select, changes, takes, moves, ends};
 ghost use Rattle.pins.specs.Counted.{pins_of, selected, held_after};
 
 // The five levels of a sample.
-#[derive(Clone, Copy)]
+#[derive(Clone, Copy, Debug, PartialEq, Eq)]
 pub struct Levels {
     pub select: bool,
     pub clock: bool,
@@ -32,7 +34,7 @@ impl Levels {
     pub(crate) fn changes(self, now: Levels) -> bool
         ensures { (holding : Bool) → result ≡ changes (pins_of self holding) now }
     {
-        (self.select & !now.select) | (!self.select & now.select)
+        self.select != now.select
     }
 
     // Whether Chip Select rises outside a hold.

@@ -1,7 +1,8 @@
 // Raw pins: the transactions in a probe's samples carried out in order, and one output byte for each sample.
 #![tactic(auto)]
 
-ghost use Rattle.std.specs.Prelude.{◌≡◌, false, cond, ◌≤◌, ◌<◌, length, take};
+ghost use Rattle.std.specs.Prelude.{◌≡◌, false, ◌≤◌, ◌<◌, length, take};
+ghost use Rattle.refusals.specs.Numbers.{answer_of};
 ghost use Rattle.chip.specs.Table.{longest};
 ghost use Rattle.pins.specs.Pins.{odd_samples, too_long};
 ghost use Rattle.pins.specs.Run.{run_answer, Ran};
@@ -14,6 +15,7 @@ use chip::{Answer, Done};
 use device::Device;
 use levels::Levels;
 use parts::Figures;
+use refusals::Refusal;
 use underway::Underway;
 
 // Before the first sample Chip Select, W and Hold are high, the others low.
@@ -26,28 +28,16 @@ const LONG: usize = 524_296;
 fn odd_samples(samples: &[u8]) -> bool
     ensures { result ≡ odd_samples samples.now }
 {
-    let mut odd = false;
-    let mut i = 0;
-    while i < samples.len() {
-        odd = odd | (32 <= samples[i]);
-        i += 1;
-    }
-    odd
-}
-
-// The count where Chip Select stays, 0 where it changes.
-fn kept(count: usize, changes: bool) -> usize
-    ensures { result ≡ cond changes 0 count }
-{
-    if changes { 0 } else { count }
+    samples.iter().any(|sample| 32 <= *sample)
 }
 
 // The bits of the transaction under way, after a sample; `was` are the levels before it, `held` is the hold with Chip Select taken.
+#[tactic(auto, unfolding(crate::specs::Counted::next_count))]
 fn next_count(count: usize, was: Levels, levels: Levels, held: bool) -> usize
     requires { count < 18446744073709551615 }
     ensures { result ≡ next_count count was levels held }
 {
-    let count = kept(count, was.changes(levels));
+    let count = if was.changes(levels) { 0 } else { count };
     if was.takes(levels, held) {
         return count + 1;
     }
@@ -58,36 +48,42 @@ fn next_count(count: usize, was: Levels, levels: Levels, held: bool) -> usize
 fn too_long(samples: &[u8]) -> bool
     ensures { result ≡ too_long samples.now }
 {
-    let mut before = REST;
+    let mut was = Levels::of(REST);
     let mut holding = false;
     let mut count = 0;
     let mut long = false;
-    let mut i = 0;
-    while i < samples.len() {
-        let was = Levels::of(before);
-        let levels = Levels::of(samples[i]);
+    for sample in samples {
+        let levels = Levels::of(*sample);
         let held = was.on_select(levels, holding);
         count = next_count(count, was, levels, held);
         long = long | (LONG <= count);
         holding = levels.on_hold(held);
-        before = samples[i];
-        i += 1;
+        was = levels;
     }
     long
 }
 
-// The number that answers a run: 6, 2, 21, 22, 23, or 0.
-fn run_number(device: Device, array: usize, samples: &[u8], output: usize) -> u8
-    ensures { result ≡ run_answer device array samples.now output }
+// Whether a run is carried out: else 6, 2, 21, 22 or 23.
+#[tactic(auto, unfolding(crate::specs::Run::run_answer))]
+fn accepts(device: Device, array: usize, samples: &[u8], output: usize) -> Result<(), Refusal>
+    ensures { answer_of result ≡ run_answer device array samples.now output }
 {
-    let figures = Figures::of(device.part);
-    let odd = odd_samples(samples);
-    let long = too_long(samples);
-    let x = slices::when(output < samples.len(), 23, 0);
-    let x = slices::when(long, 22, x);
-    let x = slices::when(odd, 21, x);
-    let x = slices::when(array != figures.bytes, 2, x);
-    slices::when(!device.sound(), 6, x)
+    if !device.sound() {
+        return Err(Refusal::NotSound);
+    }
+    if array != Figures::of(device.part).bytes {
+        return Err(Refusal::ArrayLength);
+    }
+    if odd_samples(samples) {
+        return Err(Refusal::OddSample);
+    }
+    if too_long(samples) {
+        return Err(Refusal::RunTooLong);
+    }
+    if output < samples.len() {
+        return Err(Refusal::OutputShort);
+    }
+    Ok(())
 }
 
 // A record after transactions, and the bits missing in them.
@@ -98,6 +94,7 @@ struct Tally {
 }
 
 // Carries out the transaction under way, if it ends with this sample; `was` are the levels before it.
+#[tactic(auto, unfolding(crate::specs::Counted::ended_with, crate::specs::Counted::missed_with))]
 fn carry_out(
     device: Device,
     array: &mut [u8],
@@ -138,13 +135,11 @@ fn carry_all(
 {
     let mut device = device;
     let mut missing = 0;
-    let mut before = REST;
+    let mut was = Levels::of(REST);
     let mut holding = false;
     let mut under = Underway::none();
-    let mut i = 0;
-    while i < samples.len() {
-        let was = Levels::of(before);
-        let levels = Levels::of(samples[i]);
+    for (i, sample) in samples.iter().enumerate() {
+        let levels = Levels::of(*sample);
         if was.changes(levels) {
             let done = carry_out(device, array, was, levels, holding, under, sent, response);
             device = done.device;
@@ -154,9 +149,8 @@ fn carry_all(
         let held = was.on_select(levels, holding);
         under = under.clocked(device, array, sent, was, levels, held);
         holding = levels.on_hold(held);
-        output[i] = slices::when(levels.select | holding, 2, under.bit);
-        before = samples[i];
-        i += 1;
+        output[i] = under.output(levels, holding);
+        was = levels;
     }
     Tally { device, missing }
 }
@@ -165,19 +159,16 @@ fn carry_all(
 pub fn run(device: Device, array: &mut [u8], samples: &[u8], output: &mut [u8]) -> Done
     ensures { Ran device array.old samples.now output.old result array.new output.new }
 {
-    let number = run_number(device, array.len(), samples, output.len());
-    if number != 0 {
-        let answer = Answer::bare(number);
+    if let Err(refusal) = accepts(device, array.len(), samples, output.len()) {
+        let answer = Answer::bare(refusal.into());
         return Done { answer, device };
     }
     let mut sent = [0u8; chip::LONGEST];
     let mut response = [0u8; chip::LONGEST];
     let all = carry_all(device, array, samples, output, &mut sent, &mut response);
     let answer = Answer {
-        number: 0,
-        first: 0,
-        count: 0,
         missing: all.missing,
+        ..Answer::bare(0)
     };
     let device = all.device;
     Done { answer, device }

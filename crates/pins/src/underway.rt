@@ -1,20 +1,21 @@
 // The transaction under way: its bits as numbers, the byte that is driven after them, and the bit that shows.
-ghost use Rattle.std.specs.Prelude.{◌≡◌, true, ◌<◌, length};
+#![tactic(auto, unfolding(crate::specs::Pins::shifted, crate::specs::Counted::none_yet, crate::specs::Counted::shown_on))]
+
+ghost use Rattle.std.specs.Prelude.{◌≡◌, true, cond, ◌||◌, ◌<◌, length};
 ghost use Rattle.pins.specs.Pins.{shifted, takes};
-ghost use Rattle.pins.specs.Counted.{selected, none_yet, bit_now, shown_on, Taken, Clocked};
+ghost use Rattle.pins.specs.Counted.{selected, none_yet, bit_now, level, shown_on, Taken, Clocked};
 
 use crate::levels::Levels;
 use device::Device;
 
-// Whole bytes, further pulses and the register that the data is shifted into; whether a byte is driven after the whole bytes and which; the bit that shows since the last fall of the clock, 2 for none.
-#[derive(Clone, Copy)]
+// Whole bytes, further pulses and the register that the data is shifted into; the byte that is driven after the whole bytes, if one is; the bit that shows since the last fall of the clock, if one does.
+#[derive(Clone, Copy, Debug, PartialEq, Eq)]
 pub struct Underway {
     pub whole: usize,
     pub pulses: u32,
     pub register: u32,
-    pub driven: bool,
-    pub byte: u8,
-    pub bit: u8,
+    pub driven: Option<u8>,
+    pub bit: Option<bool>,
 }
 
 // The register with one bit more.
@@ -25,12 +26,16 @@ fn shift_in(register: u32, bit: bool) -> u32
     if bit { up + 1 } else { up }
 }
 
-// Bit 7 - k of a driven byte, 2 where nothing is driven.
-fn bit_now(driven: bool, byte: u8, k: u32) -> u8
+// An output byte that shows no bit.
+const NOTHING: u8 = 2;
+
+// Bit 7 - k of a driven byte.
+fn bit_now(driven: Option<u8>, k: u32) -> Option<bool>
     requires { k < 8 }
-    ensures { result ≡ bit_now driven byte k }
+    ensures { result ≡ bit_now driven k }
 {
-    slices::when(driven, (byte >> (7 - k)) % 2, 2)
+    let byte = driven?;
+    Some((byte >> (7 - k)) % 2 == 1)
 }
 
 impl Underway {
@@ -42,9 +47,8 @@ impl Underway {
             whole: 0,
             pulses: 0,
             register: 0,
-            driven: false,
-            byte: 0,
-            bit: 2,
+            driven: None,
+            bit: None,
         }
     }
 
@@ -56,25 +60,20 @@ impl Underway {
         let register = shift_in(self.register, bit);
         if self.pulses != 7 {
             return Underway {
-                whole: self.whole,
                 pulses: self.pulses + 1,
                 register,
-                driven: self.driven,
-                byte: self.byte,
-                bit: self.bit,
+                ..self
             };
         }
         let whole = self.whole;
         sent[whole] = register as u8;
         let n = whole + 1;
-        let during = chip::line::driven_byte(device, array, &sent[..n]);
         Underway {
             whole: n,
             pulses: 0,
             register,
-            driven: during.driven,
-            byte: during.byte,
-            bit: self.bit,
+            driven: chip::line::driven_byte(device, array, &sent[..n]),
+            ..self
         }
     }
 
@@ -84,12 +83,8 @@ impl Underway {
         ensures { result ≡ shown_on self }
     {
         Underway {
-            whole: self.whole,
-            pulses: self.pulses,
-            register: self.register,
-            driven: self.driven,
-            byte: self.byte,
-            bit: bit_now(self.driven, self.byte, self.pulses),
+            bit: bit_now(self.driven, self.pulses),
+            ..self
         }
     }
 
@@ -113,5 +108,18 @@ impl Underway {
             return self.moved_on();
         }
         self
+    }
+
+    // The output after a sample: the bit that shows, and none in a hold or with Chip Select high.
+    pub(crate) fn output(self, levels: Levels, holding: bool) -> u8
+        ensures { result ≡ cond (levels.select || holding) 2 (level self.bit) }
+    {
+        if levels.select || holding {
+            return NOTHING;
+        }
+        match self.bit {
+            Some(bit) => u8::from(bit),
+            None => NOTHING,
+        }
     }
 }

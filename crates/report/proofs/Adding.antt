@@ -16,6 +16,10 @@ use Rattle.report.specs.Totals.{totals, total_bytes, largest, total_in, some_bel
 
 -- ---- some number below n
 
+or-true : (a : Bool) → a || true ≡ true
+or-true true = refl
+or-true false = refl
+
 pub some_next : (n : ℕ) (test : ℕ → Bool) → some_below (n + 1) test ≡ some_below n test || test n
 some_next n test = rw (add-one n)
 
@@ -33,6 +37,15 @@ none_below (suc n) test e i h =
     go last before true q = rw (eqb-true i n q) last
     go last before false q = let k = eqb-false i n q in before (omega arith)
 
+-- one that it holds of is enough
+some_at : (n : ℕ) (test : ℕ → Bool) (i : ℕ) → i < n → test i ≡ true → some_below n test ≡ true
+some_at zero test i h e = absurd (omega arith)
+some_at (suc n) test i h e = go (λ k. some_at n test i k e) (eqb i n) refl
+  where
+    go : (i < n → some_below n test ≡ true) → (b : Bool) → eqb i n ≡ b → some_below n test || test n ≡ true
+    go before true q = let z = eqb-true i n q in let l : test n ≡ true = ap test (sym z) ∙ e in rw l (or-true (some_below n test))
+    go before false q = let k = eqb-false i n q in rw (before (omega arith))
+
 some_same : (n : ℕ) (s t : ℕ → Bool) → ((i : ℕ) → i < n → s i ≡ t i) → some_below n s ≡ some_below n t
 some_same zero s t h = refl
 some_same (suc n) s t h = rw (some_same n s t (λ i lt. h i (omega arith)), h n (omega arith))
@@ -42,14 +55,6 @@ some-never zero = refl
 some-never (suc n) = rw (some-never n)
 
 -- ---- 71
-
--- a sum that does not fit, as the code finds it
-pub beyond : (was n : ℕ) → was ≤ largest → ltb (largest - was) n ≡ ltb largest (was + n)
-beyond was n h = go (ltb largest (was + n)) refl
-  where
-    go : (b : Bool) → ltb largest (was + n) ≡ b → ltb (largest - was) n ≡ b
-    go true e = let k = ltb-true largest (was + n) e in lt-ltb (largest - was) n (omega arith)
-    go false e = let k = ltb-false largest (was + n) e in le-ltb (largest - was) n (omega arith)
 
 module _ (more : ℕ → ℕ) (b : List ℕ) where
   -- where it is not met, every sum fits
@@ -61,6 +66,11 @@ module _ (more : ℕ → ℕ) (b : List ℕ) where
   pub all_fit : ((i : ℕ) → i < totals → total_in b i + more i ≤ largest) → exceeds more b ≡ false
   unfolding exceeds
   all_fit h = some_same totals _ (λ i. false) (λ i lt. le-ltb largest (total_in b i + more i) (h i lt)) ∙ some-never totals
+
+  -- where it is met at some place
+  pub some_exceeds : (i : ℕ) → i < totals → ltb largest (total_in b i + more i) ≡ true → exceeds more b ≡ true
+  unfolding exceeds
+  some_exceeds i h e = some_at totals (λ k. ltb largest (total_in b k + more k)) i h e
 
   pub exceeds-end : (n : ℕ) → n ≡ totals → some_below n (λ i. ltb largest (total_in b i + more i)) ≡ exceeds more b
   unfolding exceeds

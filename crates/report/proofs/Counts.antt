@@ -8,8 +8,7 @@ use native.Mathlib.Nat.{mod-lt}
 use native.Mathlib.Omega.{arith}
 use borrow.Author.Tests.{eqb-true, eqb-false, eq-eqb, ne_eqb, ltb-true, ltb-false}
 use lib.Dec.{eqb, ltb}
-use lib.ListN.{length, get_or, set, length-set}
-use lib.Seq.{get_or-set_same, get_or-set_other}
+use lib.ListN.{length, get_or}
 use Rattle.parts.specs.declared.Figures.{Figures}
 use Rattle.parts.specs.Parts.{figures_of}
 use Rattle.parts.proofs.Laws.{sane, sector-within}
@@ -18,12 +17,6 @@ use Rattle.report.specs.Totals.{Dealt, code_of, number_of, was_executed, was_pro
 use Rattle.report.specs.Found.{Spare, Raised, Grown}
 
 -- one number stored
-pub raised-set : (counts : List ℕ) (k n : ℕ) → k < length counts → Raised k n counts (set counts k (get_or counts k 0 + n))
-raised-set counts k n h = record { long = length-set counts k _; each = λ i. go i (eqb i k) refl }
-  where
-    go : (i : ℕ) (b : Bool) → eqb i k ≡ b → get_or (set counts k (get_or counts k 0 + n)) i 0 ≡ get_or counts i 0 + cond (eqb i k) n 0
-    go i true e = let z = eqb-true i k e in rw (e, z) (get_or-set_same counts k _ 0 h)
-    go i false e = rw e (get_or-set_other counts k i _ 0 (λ z. eqb-false i k e z) ∙ omega arith)
 
 -- room for what is raised, and what is left of it afterwards
 pub spare-after : {counts is : List ℕ} {k n m : ℕ} → Spare counts m → Raised k n counts is → n ≤ m → Spare is (m - n)
@@ -156,11 +149,6 @@ module _ (f : Figures) (t : Dealt) (n : number_of t < 32) (c : code_of t < 256) 
         record { long = q.long ∙ (p.long ∙ long); each = λ i h. omega (arith, p.each i, q.each i, share i, code-none i e, sector-none i g) }
 
     module _ (e : was_executed t ≡ true) {d : List ℕ} (r : Raised (code_of t) 1 b d) where
-      pub grown-other : eqb (code_of t) 2 ≡ false → Grown f (t ∷ []) was d
-      grown-other g =
-          let k : was_program t ≡ false = rw (e, g) in
-          record { long = r.long ∙ (q.long ∙ (p.long ∙ long)); each = λ i h. omega (arith, p.each i, q.each i, r.each i, share i, code_one i e, sector-none i k) }
-
       pub grown-program : eqb (code_of t) 2 ≡ true → {x : List ℕ} → Raised (289 + sector_in f t.sent) 1 d x → Grown f (t ∷ []) was x
       grown-program g {x} u =
           let k : was_program t ≡ true = rw (e, g) in

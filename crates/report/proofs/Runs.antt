@@ -3,7 +3,7 @@
 use mathlib.Core.Path.{◌≡◌, refl, sym, ◌∙◌}
 use mathlib.Core.Bool.{Bool, true, false, cond, not, ◌||◌}
 use mathlib.Core.List.{List}
-use Prim.Native.Nat.{ℕ, ◌/◌, ◌≤◌, ◌<◌}
+use Prim.Native.Nat.{ℕ, zero, suc, ◌/◌, ◌≤◌, ◌<◌}
 use native.Mathlib.Omega.{arith}
 use borrow.Author.Tests.{eq-eqb, ne_eqb, ltb-true, ltb-false, lt-ltb, le-ltb}
 use lib.Dec.{eqb, ltb}
@@ -85,41 +85,46 @@ module _ (d : Device) (array items responses answers held : List ℕ) where
       (ltb (length responses) (room_for (events_of items)) || ltb (length answers) (length (events_of items)) || ltb (length held) total_bytes)
       (exceeds (gained (events_of items) (chip d array)) held))
 
-  number-form : (form ≡ 0 → ⊥) → number ≡ form
+  -- 6, 2, 9, 10
+  pub number-form : (form ≡ 0 → ⊥) → number ≡ form
   number-form n = number-split ∙ sym (other form _ form n)
 
-  number-sums : form ≡ 0 → number ≡ cond (exceeds (gained (events_of items) (chip d array)) held) 71 0
-  number-sums z = number-split ∙ rw z
+  -- none of them comes before 71 and 0
+  pub number-none : number ≡ 0 → form ≡ 0
+  number-none e = go form (sym number-split ∙ e)
+    where
+      go : (k : ℕ) → on_zero k (cond (exceeds (gained (events_of items) (chip d array)) held) 71 0) k ≡ 0 → k ≡ 0
+      go zero h = refl
+      go (suc k) h = h
 
   -- refused: nothing changes
-  refused : (k : ℕ) → k ≡ number → (k ≡ 0 → ⊥) → Reported d array items responses answers held (record { answer = k; device = d }) array responses answers held
+  pub refused : (k : ℕ) → k ≡ number → (k ≡ 0 → ⊥) → Reported d array items responses answers held (record { answer = k; device = d }) array responses answers held
   unfolding reported
   refused k e n =
       let o : Out = record { chip = chip d array; responses = responses; answers = answers; totals = held } in
       let z : o ≡ reported number d array items responses answers held = other number (counted (events_of items) (chip d array) responses answers held) o (λ w. n (e ∙ w)) in
       record { answer = e; outcome = rw (← z) (record { device = refl; memory = refl; lines = refl; numbers = refl; sums = refl }) }
 
-  -- 6, 2, 9, 10
-  pub refused-form : (k : ℕ) → k ≡ form → (k ≡ 0 → ⊥) → Reported d array items responses answers held (record { answer = k; device = d }) array responses answers held
-  refused-form k e n = refused k (e ∙ sym (number-form (λ z. n (e ∙ z)))) n
-
   module _ (z : form ≡ 0) {counts : List ℕ} (t : Counted (events_of items) d (length array) counts) where
     abbrev more : ℕ → ℕ
     more i = get_or counts i 0
 
-    foreseen-sums : exceeds more held ≡ exceeds (gained (events_of items) (chip d array)) held
-    foreseen-sums = exceeds-same more held (gained (events_of items) (chip d array)) (t.each array refl)
+    -- 71, or 0
+    pub number-sums : number ≡ cond (exceeds more held) 71 0
+    number-sums = rw (exceeds-same more held (gained (events_of items) (chip d array)) (t.each array refl)) (number-split ∙ rw z)
 
-    -- 71
-    pub refused-sums : exceeds more held ≡ true → Reported d array items responses answers held (record { answer = 71; device = d }) array responses answers held
-    refused-sums e = let n : number ≡ 71 = number-sums z ∙ rw (← foreseen-sums, e) in refused 71 (sym n) (λ w. absurd (omega arith))
+    pub sums-fit : number ≡ 0 → exceeds more held ≡ false
+    sums-fit e = go (exceeds more held) (sym number-sums ∙ e)
+      where
+        go : (b : Bool) → ◌≡◌ {A = ℕ} (cond b 71 0) 0 → b ≡ false
+        go true h = absurd (omega arith)
+        go false h = refl
 
     -- not refused
-    pub done : exceeds more held ≡ false → {missing missing' : List ℕ} → missing_bytes ≤ length missing → {r : Checked} {array' responses' answers' held' : List ℕ}
+    pub done : number ≡ 0 → {missing missing' : List ℕ} → missing_bytes ≤ length missing → {r : Checked} {array' responses' answers' held' : List ℕ}
         → Batched d array items responses answers missing r array' responses' answers' missing' → held' ≡ added more held → Reported d array items responses answers held r array' responses' answers' held'
     unfolding batched carried_out reported counted
-    done e {missing} long p q =
-        let n : number ≡ 0 = number-sums z ∙ rw (← foreseen-sums, e) in
+    done n {missing} long p q =
         let k = accepted d array items (length responses) (length answers) (length held / totals) z in
         let y : batch_number d (length array) items (length responses) (length answers) (length missing) ≡ 0 = accepting (record { good = k.good; formed = k.formed; room = k.room; places = k.places; sum = long }) in
         let h = rw y at p.outcome in

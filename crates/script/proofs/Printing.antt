@@ -25,16 +25,16 @@ unfolding over
 over-above from line i x h = rw (le-ltb i from h)
 
 -- nothing is printed
-pub printed-none : (text : List ℕ) (from r : ℕ) → r ≡ min from (length text) → Printed [] text from text r
-printed-none text from r e = record { past = omega arith; written = map_is (over from []) text text refl (λ i h. go i (ltb i from) refl) }
+pub printed_none : (text : List ℕ) (from r : ℕ) → r ≡ min from (length text) → Printed [] text from text r
+printed_none text from r e = record { past = omega arith; written = map_is (over from []) text text refl (λ i h. go i (ltb i from) refl) }
   where
     go : (i : ℕ) (b : Bool) → ltb i from ≡ b → get_or text i 0 ≡ over from [] i (get_or text i 0)
     go i true e = sym (over_below from [] i (get_or text i 0) (ltb-true i from e))
     go i false e = sym (over-above from [] i (get_or text i 0) (ltb-false i from e))
 
 -- one character is printed where there is room
-pub printed-here : (b : ℕ) (text : List ℕ) (from : ℕ) → from < length text → Printed (b ∷ []) text from (set text from b) (from + 1)
-printed-here b text from h = record { past = omega arith; written = map_is (over from (b ∷ [])) text (set text from b) (length-set text from b) (λ i lt. go i (ltb i from) refl (eqb i from) refl) }
+pub printed_here : (b : ℕ) (text : List ℕ) (from : ℕ) → from < length text → Printed (b ∷ []) text from (set text from b) (from + 1)
+printed_here b text from h = record { past = omega arith; written = map_is (over from (b ∷ [])) text (set text from b) (length-set text from b) (λ i lt. go i (ltb i from) refl (eqb i from) refl) }
   where
     go : (i : ℕ) (s : Bool) → ltb i from ≡ s → (t : Bool) → eqb i from ≡ t → get_or (set text from b) i 0 ≡ over from (b ∷ []) i (get_or text i 0)
     go i true e t f =
@@ -58,13 +58,17 @@ printed-here b text from h = record { past = omega arith; written = map_is (over
         past i p n = omega arith
 
 -- past the end there is no room
-pub printed-nowhere : (line text : List ℕ) (from : ℕ) → length text ≤ from → Printed line text from text (length text)
-printed-nowhere line text from h =
+pub printed_nowhere : (line text : List ℕ) (from : ℕ) → length text ≤ from → Printed line text from text (length text)
+printed_nowhere line text from h =
     record { past = omega arith; written = map_is (over from line) text text refl (λ i lt. sym (over_below from line i (get_or text i 0) (omega arith))) }
 
+-- what is printed in a text that is the same
+pub printed_as : {line text text₁ text₂ : List ℕ} {from r : ℕ} → Printed line text from text₁ r → text₂ ≡ text₁ → Printed line text from text₂ r
+printed_as p e = rw e p
+
 -- what is printed after what was printed
-pub printed-then : {a b text text₁ text₂ : List ℕ} {from r₁ r₂ : ℕ} → Printed a text from text₁ r₁ → Printed b text₁ r₁ text₂ r₂ → Printed (a ++ b) text from text₂ r₂
-printed-then {a} {b} {text} {text₁} {text₂} {from} {r₁} {r₂} p q =
+pub printed_then : {a b text text₁ text₂ : List ℕ} {from r₁ r₂ : ℕ} → Printed a text from text₁ r₁ → Printed b text₁ r₁ text₂ r₂ → Printed (a ++ b) text from text₂ r₂
+printed_then {a} {b} {text} {text₁} {text₂} {from} {r₁} {r₂} p q =
     let l : length text₁ ≡ length text = ap length p.written ∙ length-map (over from a) text in
     record {
       past = omega (arith, p.past, q.past, length-append a b);

@@ -1,19 +1,22 @@
 -- Laws of the lines that are read.
 -- Assumes nothing.
 use mathlib.Core.Path.{◌≡◌, refl, sym, ap, ◌∙◌}
-use mathlib.Core.Bool.{Bool, true, false, cond, ◌&&◌, ◌||◌, and_assoc, and-false}
-use mathlib.Core.List.{List, [], ◌∷◌}
-use Prim.Native.Nat.{ℕ, zero, suc, ◌+◌, ◌-◌, ◌*◌, ◌/◌, ◌%◌, ◌<◌, ◌≤◌, min}
+use mathlib.Core.Bool.{Bool, true, false, cond, ◌&&◌, ◌||◌, and-false, and-true}
+use mathlib.Core.List.{List, [], ◌∷◌, ◌++◌}
+use Prim.Native.Nat.{ℕ, zero, suc, ◌+◌, ◌-◌, ◌*◌, ◌/◌, ◌%◌, ◌<◌, ◌≤◌}
 use native.Mathlib.Numerals.{add-one}
 use native.Mathlib.Omega.{arith}
-use borrow.Author.Tests.{ltb-true, ltb-false, leb-true, leb-false, eqb-true, le-leb, lt-leb, le-ltb}
+use borrow.Author.Tests.{ltb-true, ltb-false, eqb-true, eqb-false, le-leb, lt-leb, lt-ltb, le-ltb}
 use lib.Dec.{eqb, leb, ltb}
-use lib.ListN.{length, get_or, take, drop, drop_of_length-le, length-drop}
-use lib.Seq.{drop-cons, take_all}
+use lib.Pointwise.{pointwise}
+use lib.ListN.{length, get_or, take, drop, drop_of_length-le, length-drop, length-append, get_or-append}
+use lib.Seq.{drop-cons, get_or-take, get_or-drop, get_or-append-add, length-take-le}
+use Rattle.std.proofs.Common.{Some, None, not}
 use Rattle.slices.specs.Changed.{map_at}
 use Rattle.slices.proofs.Choices.{both}
-use Rattle.slices.proofs.Maps.{map_is}
+use Rattle.slices.proofs.Maps.{map_is, length-map, get_or-map}
 use Rattle.script.specs.Lines.{digit_of, all_below, number_from, number_of, pairs, is_hex, is_number, is_exchange, is_wait, bytes_of, Parsed}
+use Rattle.script.specs.Steps.{number_in, ticks_in}
 use Rattle.script.specs.declared.Command.{Command}
 
 -- a number in a range, one below it and one above it
@@ -26,44 +29,84 @@ between-below a b x h = rw (lt-leb a x h)
 pub between-above : (a b x : ℕ) → b < x → leb a x && leb x b ≡ false
 between-above a b x h = rw (lt-leb x b h) (and-false (leb a x))
 
--- one more character of a loop that tests each
-pub all-next : (base : ℕ) (xs : List ℕ) (i : ℕ) (b : Bool) → i < length xs
-    → (b && ltb (digit_of (get_or xs i 0)) base) && all_below base (drop (i + 1) xs) ≡ b && all_below base (drop i xs)
-all-next base xs i b h = rw (add-one, drop-cons xs i 0 h) (and_assoc b (ltb (digit_of (get_or xs i 0)) base) (all_below base (drop (suc i) xs)))
+-- a number only grows with more digits
+grows : (xs : List ℕ) (v : ℕ) → v ≤ number_from v xs
+grows [] v = omega arith
+grows (x ∷ xs) v = let h = grows xs (10 * v + digit_of x) in omega arith
 
--- a number is cut off alike, wherever two that are cut off alike go on with the same digits
-pub cut-alike : (xs : List ℕ) (v w m : ℕ) → min v m ≡ min w m → min (number_from v xs) m ≡ min (number_from w xs) m
-cut-alike [] v w m h = h
-cut-alike (x ∷ xs) v w m h = cut-alike xs (10 * v + digit_of x) (10 * w + digit_of x) m (omega arith)
+-- one more digit
+pub number-next : (xs : List ℕ) (i v : ℕ) → i < length xs → number_from (10 * v + digit_of (get_or xs i 0)) (drop (i + 1) xs) ≡ number_from v (drop i xs)
+number-next xs i v h = rw (add-one, drop-cons xs i 0 h)
 
--- a number is below where it is cut off exactly if it was
-pub cut_below : (v m : ℕ) → ltb (min v m) m ≡ ltb v m
-cut_below v m = go (ltb v m) refl
+-- a field that is no number: no digits alone, or one that is too large
+pub no_digits : (xs : List ℕ) → eqb (length xs) 0 || not (all_below 10 xs) ≡ true → None ≡ number_in xs
+unfolding is_number
+no_digits xs h = go (eqb (length xs) 0) refl (all_below 10 xs) refl
   where
-    go : (b : Bool) → ltb v m ≡ b → ltb (min v m) m ≡ ltb v m
-    go true e = let h = ltb-true v m e in ap (λ (k : ℕ). ltb k m) (let z : min v m ≡ v = omega arith in z)
-    go false e = let h = ltb-false v m e in le-ltb (min v m) m (omega arith) ∙ sym e
+    go : (s : Bool) → eqb (length xs) 0 ≡ s → (t : Bool) → all_below 10 xs ≡ t → None ≡ number_in xs
+    go true p t q = let z = eqb-true (length xs) 0 p in rw z
+    go false p true q = let z : false ≡ true = rw (p, q) at h in cc
+    go false p false q = rw (q, and-false (ltb 0 (length xs)))
 
--- one more digit of a loop that cuts off
-pub number-next : (xs : List ℕ) (i v m : ℕ) → i < length xs
-    → min (number_from (min (10 * v + digit_of (get_or xs i 0)) m) (drop (i + 1) xs)) m ≡ min (number_from v (drop i xs)) m
-number-next xs i v m h =
-    rw (add-one, drop-cons xs i 0 h)
-    (cut-alike (drop (suc i) xs) (min (10 * v + digit_of (get_or xs i 0)) m) (10 * v + digit_of (get_or xs i 0)) m (omega arith))
+pub too_large : (xs : List ℕ) (i v : ℕ) → i < length xs → number_from v (drop i xs) ≡ number_of xs → 4294967296 ≤ 10 * v + digit_of (get_or xs i 0) → None ≡ number_in xs
+unfolding is_number
+too_large xs i v lt e h =
+    let g = grows (drop (i + 1) xs) (10 * v + digit_of (get_or xs i 0)) in
+    let s = number-next xs i v lt in
+    let big : 4294967296 ≤ number_of xs = omega arith in
+    rw (le-ltb (number_of xs) 4294967296 big, and-false (ltb 0 (length xs) && all_below 10 xs))
 
--- what is left of a line after its first n characters, which it may not have
-pub after_is : (xs : List ℕ) (n start : ℕ) → start ≡ min n (length xs) → drop start xs ≡ drop n xs
-after_is xs n start e = go (leb n (length xs)) refl
+-- and one that is
+pub is_one : (xs : List ℕ) (v : ℕ) → eqb (length xs) 0 || not (all_below 10 xs) ≡ false → v ≡ number_of xs → v < 4294967296 → Some v ≡ number_in xs
+unfolding is_number
+is_one xs v h e lt = go (eqb (length xs) 0) refl (all_below 10 xs) refl
   where
-    go : (b : Bool) → leb n (length xs) ≡ b → drop start xs ≡ drop n xs
-    go true q = ap (λ (k : ℕ). drop k xs) (let t = leb-true n (length xs) q in let z : start ≡ n = omega arith in z)
-    go false q =
-        let t = leb-false n (length xs) q in
-        drop_of_length-le xs {i = start} (omega arith) ∙ sym (drop_of_length-le xs {i = n} (omega arith))
+    go : (s : Bool) → eqb (length xs) 0 ≡ s → (t : Bool) → all_below 10 xs ≡ t → Some v ≡ number_in xs
+    go true p t q = let z : true ≡ false = rw p at h in cc
+    go false p false q = let z : true ≡ false = rw (p, q) at h in cc
+    go false p true q =
+        let k : 0 < length xs = let n = eqb-false (length xs) 0 p in omega (arith, n) in
+        rw (lt-ltb 0 (length xs) k, q, ← e, lt-ltb v 4294967296 lt)
 
--- the same, as the part of a slice from there to its end
-pub part-is : (xs : List ℕ) (n start : ℕ) → start ≡ min n (length xs) → take (length xs - start) (drop start xs) ≡ drop n xs
-part-is xs n start e = take_all (length xs - start) (drop start xs) (omega (arith, length-drop start xs)) ∙ after_is xs n start e
+-- a line that begins as one that waits
+pub begins : (line : List ℕ) → pointwise eqb (take 2 line) (119 ∷ 32 ∷ []) ≡ eqb (get_or line 0 0) 119 && eqb (get_or line 1 0) 32
+begins [] = refl
+begins (x ∷ []) = refl
+begins (x ∷ y ∷ line) = rw and-true
+
+-- a line that waits, and one that does not
+pub waits : (line : List ℕ) (t : ℕ) → Some t ≡ ticks_in line → (is_wait line ≡ true) × (t ≡ number_of (drop 2 line))
+waits line t e = go (is_wait line) refl
+  where
+    go : (b : Bool) → is_wait line ≡ b → (is_wait line ≡ true) × (t ≡ number_of (drop 2 line))
+    go true p = (p, let z : Some t ≡ Some (number_of (drop 2 line)) = rw p at e in cc)
+    go false p = let z : Some t ≡ None = rw p at e in cc
+
+pub no_wait : (line : List ℕ) → ticks_in line ≡ None → is_wait line ≡ false
+no_wait line e = go (is_wait line) refl
+  where
+    go : (b : Bool) → is_wait line ≡ b → is_wait line ≡ false
+    go true p = let z : Some (number_of (drop 2 line)) ≡ None = rw p at e in cc
+    go false p = p
+
+-- a change of the first n alone
+pub change-front : (n : ℕ) (f : ℕ → ℕ → ℕ) (xs ys : List ℕ) → n ≤ length xs → ys ≡ map_at f (take n xs) → ((i x : ℕ) → n ≤ i → i < length xs → f i x ≡ x) → ys ++ drop n xs ≡ map_at f xs
+change-front n f xs ys le e stays = map_is f xs (ys ++ drop n xs) (omega (arith, l, length-append ys (drop n xs), length-drop n xs)) (λ i lt. go i lt (ltb i n) refl)
+  where
+    l : length ys ≡ n
+    l = ap length e ∙ length-map f (take n xs) ∙ length-take-le n xs le
+
+    go : (i : ℕ) → i < length xs → (b : Bool) → ltb i n ≡ b → get_or (ys ++ drop n xs) i 0 ≡ f i (get_or xs i 0)
+    go i lt true q =
+        let k = ltb-true i n q in
+        get_or-append ys (drop n xs) 0 i (omega (arith, l))
+        ∙ (ap (λ (t : List ℕ). get_or t i 0) e ∙ (get_or-map f (take n xs) i 0 (omega (arith, length-take-le n xs le)) ∙ ap (f i) (get_or-take n xs i 0 k)))
+    go i lt false q =
+        let k = ltb-false i n q in
+        let z : i ≡ length ys + (i - n) = omega (arith, l) in
+        let w : n + (i - n) ≡ i = omega arith in
+        ap (λ (m : ℕ). get_or (ys ++ drop n xs) m 0) z
+        ∙ (get_or-append-add ys (drop n xs) (i - n) 0 ∙ (get_or-drop n xs (i - n) 0 ∙ (ap (λ (m : ℕ). get_or xs m 0) w ∙ sym (stays i (get_or xs i 0) k lt))))
 
 -- where there are no bytes nothing is stored
 pub none-stored : (xs : List ℕ) → xs ≡ map_at (get_or []) xs
@@ -74,6 +117,21 @@ pub below_at : (base : ℕ) (xs : List ℕ) (i : ℕ) → all_below base xs ≡ 
 below_at base [] i h lt = omega arith
 below_at base (x ∷ xs) zero h lt = ltb-true (digit_of x) base (both (ltb (digit_of x) base) (all_below base xs) h).0
 below_at base (x ∷ xs) (suc i) h lt = below_at base xs i (both (ltb (digit_of x) base) (all_below base xs) h).1 (omega arith)
+
+-- and a text of digits alone is one
+all-back : (base : ℕ) (xs : List ℕ) → ((i : ℕ) → i < length xs → digit_of (get_or xs i 0) < base) → all_below base xs ≡ true
+all-back base [] h = refl
+all-back base (x ∷ xs) h = rw (lt-ltb (digit_of x) base (h 0 (omega arith))) (all-back base xs (λ i lt. h (suc i) (omega arith)))
+
+-- a test that holds exactly if each character is a digit
+pub all_is : (base : ℕ) (xs : List ℕ) (b : Bool) → (b ≡ true → (i : ℕ) → i < length xs → digit_of (get_or xs i 0) < base) → (((i : ℕ) → i < length xs → digit_of (get_or xs i 0) < base) → b ≡ true)
+    → b ≡ all_below base xs
+all_is base xs true to from = sym (all-back base xs (to refl))
+all_is base xs false to from = go (all_below base xs) refl
+  where
+    go : (t : Bool) → all_below base xs ≡ t → false ≡ all_below base xs
+    go true e = from (λ i lt. below_at base xs i e lt) ∙ sym e
+    go false e = sym e
 
 -- there is a byte for every two characters
 pub length_pairs : (xs : List ℕ) → length (pairs xs) ≡ length xs / 2
@@ -112,14 +170,6 @@ exchange-hex line h =
     go false e q =
         (both (ltb 0 (length (drop 6 line)) && eqb (length (drop 6 line) % 2) 0) (all_below 16 (drop 6 line))
         (both (eqb (get_or line 5 0) 32) (is_hex (drop 6 line)) q).1).1
-
--- the ticks of a line that waits are below 2^32
-pub wait-fits : (line : List ℕ) → is_wait line ≡ true → number_of (drop 2 line) < 4294967296
-unfolding is_wait is_number
-wait-fits line h =
-    ltb-true (number_of (drop 2 line)) 4294967296
-    (both (ltb 0 (length (drop 2 line)) && all_below 10 (drop 2 line)) (ltb (number_of (drop 2 line)) 4294967296)
-    (both (eqb (get_or line 0 0) 119 && eqb (get_or line 1 0) 32) (is_number (drop 2 line)) h).1).1
 
 -- a line has at most 297 bytes
 pub few_bytes : (line : List ℕ) → length (bytes_of line) ≤ 297

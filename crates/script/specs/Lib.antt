@@ -3,3 +3,4 @@ pub mod Text
 pub mod Lines
 pub mod Answers
 pub mod Examples
+pub mod Steps

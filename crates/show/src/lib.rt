@@ -1,57 +1,22 @@
-// What the programs of the gate print: bytes, numbers, and one of two texts; and whether bytes are all the same, or the same as others.
+// What the programs of the gate print: bytes, and one of two texts; and whether bytes are all the same.
 #![tactic(auto)]
-
-ghost use Rattle.std.specs.Prelude.{◌≡◌, true};
 
 use std::io;
 
-// A byte as a number to print.
-pub fn wide(x: u8) -> u64
-    ensures { result ≡ x }
-{
-    x as u64
-}
-
 // Prints bytes in hexadecimal.
 pub fn print_bytes(rt: &impl Print, s: &[u8]) -> io::Result<()> {
-    let mut i = 0;
-    while i < s.len() {
-        print!(rt; "{:02x}", s[i])?;
-        i += 1;
+    for x in s {
+        print!(rt; "{x:02x}")?;
     }
     Ok(())
 }
 
 // Whether each byte from `from` on is `v`.
 pub fn all_are(s: &[u8], from: usize, v: u8) -> bool {
-    let mut i = from;
-    while i < s.len() {
-        if s[i] != v {
-            return false;
-        }
-        i += 1;
-    }
-    true
-}
-
-// Whether two runs of bytes are the same.
-pub fn same(a: &[u8], b: &[u8]) -> bool
-    ensures yes { result ≡ true → a.now ≡ b.now }
-    ensures no { a.now ≡ b.now → result ≡ true }
-{
-    a == b
+    s.iter().skip(from).all(|x| *x == v)
 }
 
 // Prints the first text where a test holds, else the second.
 pub fn print_choice(rt: &impl Print, test: bool, yes: &[u8], no: &[u8]) -> io::Result<()> {
-    if test {
-        rt.write_all(yes)
-    } else {
-        rt.write_all(no)
-    }
-}
-
-// Prints a space and a decimal number.
-pub fn print_number(rt: &impl Print, n: u64) -> io::Result<()> {
-    print!(rt; " {n}")
+    rt.write_all(if test { yes } else { no })
 }

@@ -1,9 +1,10 @@
 -- Laws of tests and of what is chosen by them.
 -- Assumes nothing.
 use mathlib.Core.Path.{◌≡◌, refl}
-use mathlib.Core.Bool.{Bool, true, false, cond, ◌&&◌, false≢true}
+use mathlib.Core.Bool.{Bool, true, false, cond, ◌&&◌}
 use Prim.Native.Nat.{ℕ, zero, suc}
 use native.Mathlib.Omega.{arith}
+use Rattle.std.proofs.lemmas.Bool.{and_parts, cond_both}
 use Rattle.slices.specs.Chosen.{on_zero}
 
 -- what holds of both holds of the chosen one
@@ -13,13 +14,11 @@ cond_ind P false p q = q
 
 -- what holds of each, where the test is known, holds of the chosen one
 pub cond-case : {A : Type 0} (P : A → Type 0) (b : Bool) {x y : A} → (b ≡ true → P x) → (b ≡ false → P y) → P (cond b x y)
-cond-case P true p q = p refl
-cond-case P false p q = q refl
+cond-case P b {x} {y} p q = cond_both b x y P p q
 
 -- two tests, both true
 pub both : (a b : Bool) → a && b ≡ true → (a ≡ true) × (b ≡ true)
-both true b e = (refl, e)
-both false b e = absurd (false≢true e)
+both = and_parts
 
 -- the first number that applies: where none is given, this test failed and the rest gives none
 pub past : (b : Bool) (k x : ℕ) → cond b (suc k) x ≡ 0 → (b ≡ false) × (x ≡ 0)

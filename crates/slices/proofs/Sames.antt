@@ -1,12 +1,12 @@
 -- Laws of `same_bytes`: it says that two lists are equal.
 -- Assumes nothing.
 use mathlib.Core.Path.{◌≡◌, refl, sym, ap, ap₂, ◌∙◌}
-use mathlib.Core.Bool.{Bool, true, false, ◌&&◌, false≢true}
+use mathlib.Core.Bool.{Bool, true, ◌&&◌, false≢true}
 use mathlib.Core.List.{List, [], ◌∷◌, ◌++◌}
 use Prim.Native.Nat.{ℕ, ◌+◌, ◌<◌, ◌≤◌}
 use native.Mathlib.Nat.{le_of_suc-le-suc, not-suc-le-zero}
 use native.Mathlib.Numerals.{add-one}
-use Rattle.std.proofs.Math.Bool.{and_assoc}
+use Rattle.std.proofs.Math.Bool.{and_assoc, and-true}
 use lib.Dec.{eqb}
 use lib.ListN.{length, get_or, take, drop, drop_of_length-le}
 use lib.Seq.{drop-cons}
@@ -28,8 +28,7 @@ same-is (x ∷ xs) (y ∷ ys) h =
     ap₂ {C = List ℕ} (λ a l. a ∷ l) (eqb-true x y p.0) (same-is xs ys p.1)
 
 pub and-end : (a : Bool) → a && true ≡ a
-and-end true = refl
-and-end false = refl
+and-end = and-true
 
 -- compared up to place i: one byte more, the end
 pub same_next : (xs ys : List ℕ) (i : ℕ) (all : Bool) {r : Bool} → r ≡ all && same_bytes (drop i xs) (drop i ys) → i < length xs → i < length ys

@@ -1,77 +1,49 @@
 -- `batch::carry_all` meets its contract.
-use Rattle.std.proofs.Common.{ℕ, ◌+◌, ap, arith, rules}
-use Rattle.batch.proofs.Items.{next_fits, next-item}
+use Rattle.std.proofs.Common.{◌≡◌, refl, ℕ, ◌+◌, ap, arith, length, length-set, inl}
+use Rattle.batch.specs.Items.{items_of}
+use Rattle.batch.proofs.Items.{items-few, map-long}
 use Rattle.batch.proofs.Going.{going-first, going-good, going-room, going-place, going-part, going_next, going_end}
-use borrow.Author.Rules.{rules}
 use Rattle.batch.proofs.carry_all.Goals as goal
 
-pub loop-at-init : goal.loop-at-init
-loop-at-init c =
-    let s = c in
-    going-first _ _ _ _ _ s.requires.0 s.requires.1 s.requires.2 s.requires.3
+pub loop-k-init : goal.loop-k-init
+loop-k-init c =
+    let a = c.args in
+    let e : items_of c.into_iter-k-iterator.result.iter.rest.now ≡ items_of a.items.now = cc in
+    let z : c.into_iter-k-iterator.result.count ≡ 0 = cc in
+    let n = ap length e in
+    let f = items-few a.items.now in
+    ((tt, tt, inl (omega (arith, c.well_formed))), tt, going-first a.device a.array.now a.items.now a.responses.now a.answers.now c.requires.0 c.requires.1 c.requires.2 c.requires.3 _ e _ z)
 
 pub overflow_add-end : goal.overflow_add-end
 overflow_add-end c =
-    let l = c.loop-at in
-    let i = c.args.items.now in
-    let t = c.loop-at-test.true in
-    let e = c.size.ensures in
-    let n = next-item i l.at t _ e in
-    record { fits = omega (arith, going-room i _ l.at l.from l.k l.device l.missing _ _ _ l.invariant _ n, c.room.ensures) }
+    let r = going-room c.loop-k.invariant.2 c.in-Some.item.now _ c.in-Some.ensures.steps.0 in
+    record { fits = omega (arith, c.room.ensures, c.loop-k.auto.responses, c.well_formed) }
 
-pub slice_bounds-carry_one-end-in-loop-at : goal.slice_bounds-carry_one-end-in-loop-at
-slice_bounds-carry_one-end-in-loop-at c =
-    let l = c.loop-at in
-    let i = c.args.items.now in
-    let t = c.loop-at-test.true in
-    let e = c.size.ensures in
-    let n = next-item i l.at t _ e in
-    omega (arith, going-room i _ l.at l.from l.k l.device l.missing _ _ _ l.invariant _ n, c.room.ensures)
+pub slice_bounds-carry_one-end : goal.slice_bounds-carry_one-end
+slice_bounds-carry_one-end c =
+    let r = going-room c.loop-k.invariant.2 c.in-Some.item.now _ c.in-Some.ensures.steps.0 in
+    omega (arith, c.room.ensures)
 
 pub carry_one-done-requires : goal.carry_one-done-requires
 carry_one-done-requires c =
-    let l = c.loop-at in
-    let i = c.args.items.now in
-    let t = c.loop-at-test.true in
-    let e = c.size.ensures in
-    let n = next-item i l.at t _ e in
-    (going-good i _ l.at l.from l.k l.device l.missing _ _ _ l.invariant _ n, going-part i _ l.at l.from l.k l.device l.missing _ _ _ l.invariant _ n _ (ap (λ (x : ℕ). l.from + x) c.room.ensures), l.invariant.good)
+    let g = c.loop-k.invariant.2 in
+    let i = c.in-Some.item.now in
+    let n = c.in-Some.ensures.steps.0 in
+    (going-good g i _ n, going-part g i _ n _ (ap (λ (x : ℕ). c.loop-k.from + x) c.room.ensures), g.good)
 
 pub bounds-answers-k : goal.bounds-answers-k
 bounds-answers-k c =
-    let l = c.loop-at in
-    let i = c.args.items.now in
-    let t = c.loop-at-test.true in
-    let e = c.size.ensures in
-    let n = next-item i l.at t _ e in
-    going-place i _ l.at l.from l.k l.device l.missing _ _ _ l.invariant _ n
+    let p = going-place c.loop-k.invariant.2 c.in-Some.item.now _ c.in-Some.ensures.steps.0 in
+    omega (arith, c.in-Some.ensures.steps.1)
 
-pub overflow_add-k : goal.overflow_add-k
-overflow_add-k c =
-    let l = c.loop-at in
-    let i = c.args.items.now in
-    let t = c.loop-at-test.true in
-    let e = c.size.ensures in
-    let n = next-item i l.at t _ e in
-    record { fits = omega (arith, going-place i _ l.at l.from l.k l.device l.missing _ _ _ l.invariant _ n, l.invariant.answers-long, c.well_formed) }
-
-pub loop-at-preserved : goal.loop-at-preserved
-loop-at-preserved c =
-    let l = c.loop-at in
-    let i = c.args.items.now in
-    let t = c.loop-at-test.true in
-    let e = c.size.ensures in
-    let n = next-item i l.at t _ e in
-    going_next i _ l.at l.from l.k l.device l.missing _ _ _ l.invariant _ n _ (ap (λ (x : ℕ). l.from + x) c.room.ensures) (next_fits i l.at t _ e) c.carry_one-done.ensures _ c.wrapping_add_u64-missing.ensures.value
-
-pub shape_of-array : goal.shape_of-array
-shape_of-array c = c.loop-at.invariant.arrays
-
-pub shape_of-responses : goal.shape_of-responses
-shape_of-responses c = c.loop-at.invariant.responses-long
-
-pub shape_of-answers : goal.shape_of-answers
-shape_of-answers c = c.loop-at.invariant.answers-long
+pub loop-k-preserved : goal.loop-k-preserved
+loop-k-preserved c =
+    let i = c.in-Some.item.now in
+    let s = c.in-Some.ensures.steps in
+    let g = going_next c.loop-k.invariant.2 i _ s.0 _ (ap (λ (x : ℕ). c.loop-k.from + x) c.room.ensures) c.carry_one-done.ensures _ refl in
+    let f = map-long (items_of c.next.new.self.iter.rest.now) in
+    let l = length-set c.loop-k.answers c.loop-k.k-iterator.count c.carry_one-done.result.answer.number in
+    ((tt, tt, inl (omega (arith, g.places, s.2, c.loop-k.auto.answers, c.well_formed))), tt, rw (s.1, s.2, c.from.ensures) g)
 
 pub returns : goal.returns
-returns c = going_end _ _ _ _ _ _ _ _ c.loop-at.invariant (search rules)
+returns c = going_end c.loop-k.invariant.2 c.in-None.ensures.steps.0.0

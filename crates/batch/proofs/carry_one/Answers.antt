@@ -1,38 +1,17 @@
 -- `batch::carry_one` meets its contract.
-use Rattle.std.proofs.Common.{◌≡◌, ◌-◌, ◌≤◌, length, take, drop, sym, ◌∙◌, le_refl, arith, length-drop, take_all}
+use Rattle.std.proofs.Common.{◌≡◌, ◌≤◌, sym, ◌∙◌, ap, subst, arith, length}
 use Rattle.device.specs.Chip.{chip}
-use Rattle.batch.specs.Items.{length_in, flag_in}
-use Rattle.batch.proofs.One.{item-long, one-waits, one-sends}
+use Rattle.batch.specs.Items.{length_in}
+use Rattle.batch.specs.Batch.{room_of}
+use Rattle.batch.proofs.One.{one-sends}
+use Rattle.batch.proofs.Fits.{Fits, item-fits}
 use Rattle.batch.proofs.carry_one.Goals as goal
 
-pub returns-then-flag-eq-WAIT : goal.returns-then-flag-eq-WAIT
-returns-then-flag-eq-WAIT c =
-    let w = c in
-    let b = w in
-    let s = b in
-    let i = s.args.item.now in
-    let f : flag_in i ≡ 16 = sym b.byte_at-flag.ensures ∙ b.if-flag-eq-WAIT.true in
-    let h = rw w.word_at-ticks.ensures at w.wait-rested.ensures in
-    one-waits (chip s.args.device s.args.array.now) i f s.args.response.now s.requires.1 c.bare-answer.ensures h
-
-pub slice_bounds-transact-count : goal.slice_bounds-transact-count
-slice_bounds-transact-count c =
-    let s = c in
-    omega (arith, item-long s.args.item.now s.requires.0)
-
-pub slice_bounds-transact-start : goal.slice_bounds-transact-start
-slice_bounds-transact-start c =
-    let s = c in
-    omega (arith, item-long s.args.item.now s.requires.0)
-
-pub returns : goal.returns
-returns c =
-    let t = c in
-    let b = t in
-    let s = b in
-    let i = s.args.item.now in
-    let n : flag_in i ≡ 16 → ⊥ = λ e. t.if-flag-eq-WAIT.false (b.byte_at-flag.ensures ∙ e) in
-    let whole : take (length i - 3) (drop 3 i) ≡ drop 3 i = take_all (length i - 3) (drop 3 i) (simp length-drop (le_refl _)) in
-    let m = rw (whole, b.byte_at-flag.ensures) at t.transact.ensures in
-    let few : length_in i ≤ 65535 = omega (arith, b.shared_slice_known-1.given 0, b.shared_slice_known-1.given 1) in
-    one-sends (chip s.args.device s.args.array.now) s.requires.2 i s.requires.0 n few s.args.response.now s.requires.1 m
+pub returns-in-Transaction : goal.returns-in-Transaction
+returns-in-Transaction c =
+    let a = c.args in
+    let t = c.in-Transaction in
+    let few : length_in a.item.now ≤ 65535 = omega (arith, c.type_inv.item 0, c.type_inv.item 1) in
+    let f = subst Fits (sym t.ensures) (item-fits a.item.now c.requires.0 few) in
+    let l : length a.response.now ≡ length t.sent.now = c.requires.1 ∙ ap room_of (sym t.ensures) in
+    rw (← t.ensures) (one-sends (chip a.device a.array.now) c.requires.2 t.sent.now t.pulses t.w f.0 f.1 a.response.now l c.transact.ensures)

@@ -14,12 +14,20 @@ returns-then-done-ne0 c =
     let a = r.args in
     wait-kept a.row.now a.array.now a.ticks r.read-records.result r.read-records.ensures r.if-row-ne0.false w.wait-done.ensures c.if-done-ne0.true c.bare-then-done-ne0.ensures
 
+pub shared_ref_as_front-write : goal.shared_ref_as_front-write
+shared_ref_as_front-write c =
+    let w = c in
+    let r = w in
+    let a = r.args in
+    (wait-fits a.row.now a.array.now a.ticks r.read-records.result r.read-records.ensures r.if-row-ne0.false w.wait-done.ensures c.if-done-ne0.false).0
+
 pub write-requires : goal.write-requires
 write-requires c =
     let w = c in
     let r = w in
     let a = r.args in
-    wait-fits a.row.now a.array.now a.ticks r.read-records.result r.read-records.ensures r.if-row-ne0.false w.wait-done.ensures c.if-done-ne0.false
+    let f = wait-fits a.row.now a.array.now a.ticks r.read-records.result r.read-records.ensures r.if-row-ne0.false w.wait-done.ensures c.if-done-ne0.false in
+    (f.1, f.2)
 
 pub returns : goal.returns
 returns c =

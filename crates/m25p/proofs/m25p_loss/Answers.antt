@@ -1,19 +1,9 @@
 -- `m25p::m25p_loss` meets its contract.
+use Rattle.std.proofs.Common.{rules}
 use Rattle.device.specs.Time.{loss_call}
 use Rattle.chip.proofs.Records.{loss-sound}
 use Rattle.m25p.specs.Calls.{high}
-use Rattle.m25p.proofs.Laws.{came_refused, came-carried}
 use Rattle.m25p.proofs.m25p_loss.Goals as goal
 
-pub returns-then-came-ne0 : goal.returns-then-came-ne0
-returns-then-came-ne0 c =
-    let u = c in
-    let a = u.args in
-    came_refused (λ c. loss_call c a.mask.now (high a.yes)) a.packed.now a.array.now u.unpack-came.ensures c.if-came-ne0.true c.bare.ensures
-
 pub returns : goal.returns
-returns c =
-    let w = c in
-    let u = w in
-    let a = u.args in
-    came-carried (λ c. loss_call c a.mask.now (high a.yes)) a.packed.now a.array.now u.unpack-came.ensures (λ c. loss-sound c a.mask.now (high a.yes)) w.if-came-ne0.false w.loss-done.ensures c.store.ensures c.bare-2.ensures
+returns c = c.timed.ensures (λ x. loss_call x c.args.mask.now (high c.args.yes)) (λ d p r q m. search rules) (λ x. loss-sound x c.args.mask.now (high c.args.yes))

@@ -1,26 +1,12 @@
 -- `pins::odd_samples` meets its contract.
-use mathlib.Core.Path.{◌≡◌, refl, sym, ◌∙◌}
-use mathlib.Core.List.{[]}
-use native.Mathlib.Omega.{arith}
-use lib.ListN.{drop, drop_of_length-le}
-use Rattle.pins.specs.Pins.{odd_samples}
-use Rattle.pins.proofs.Seen.{odd-next}
-use borrow.Author.Rules.{rules}
+use Rattle.std.proofs.Common.{leb, ◌∙◌, rules}
+use Rattle.std.proofs.lemmas.Iterator.{YieldsList-from_slice}
+use Rattle.std.proofs.lemmas.Iterator.Search.{any_from_yields_List}
+use borrow.Author.Tests.{tests}
+use Rattle.pins.proofs.Seen.{odd_any}
 use Rattle.pins.proofs.odd_samples.Goals as goal
 
-pub loop-i-init : goal.loop-i-init
-loop-i-init c = (search rules, refl)
-
-pub loop-i-preserved : goal.loop-i-preserved
-loop-i-preserved c =
-    let l = c.loop-i in
-    let s = c.args.samples.now in
-    (search rules, sym (odd-next l.odd s l.i c.loop-i-test.true) ∙ l.invariant.1)
-
 pub returns : goal.returns
-unfolding odd_samples
 returns c =
-    let l = c.loop-i in
-    let s = c.args.samples.now in
-    let e : drop l.i s ≡ [] = drop_of_length-le s {i = l.i} (omega arith) in
-    rw e at l.invariant.1
+    any_from_yields_List (leb 32) _ _ c.any.result c.any.ensures.ran (YieldsList-from_slice c.args.samples.now cc) (λ x b q k. search (rules, tests))
+    ∙ odd_any c.args.samples.now

@@ -1,21 +1,21 @@
 -- `report::exceeding` meets its contract.
-use mathlib.Core.Path.{refl, sym, ◌∙◌}
-use Prim.Native.Nat.{◌≤◌}
-use native.Mathlib.Omega.{arith}
+use Rattle.std.proofs.Common.{◌≤◌, sym, ◌∙◌, arith, get_or, lt-ltb, le-ltb}
 use Rattle.report.specs.Totals.{largest}
-use Rattle.report.proofs.Adding.{some_next, beyond, exceeds-end}
-use borrow.Author.Rules.{rules}
+use Rattle.report.proofs.Adding.{some_next, some_exceeds, exceeds-end}
 use Rattle.report.proofs.exceeding.Goals as goal
 
-pub loop-i-preserved : goal.loop-i-preserved
-loop-i-preserved c =
+pub returns-then-long_at-n : goal.returns-then-long_at-n
+returns-then-long_at-n c =
     let l = c.loop-i in
     let w = c.long_at in
-    let h : w.result ≤ largest = search rules in
-    (search rules, rw (l.invariant.1, beyond _ _ h, w.ensures) (sym (some_next l.i _)))
+    let t = c.if-long_at-n.true in
+    let h : w.result ≤ largest = omega arith in
+    sym (some_exceeds (λ k. get_or c.args.counts.now k 0) c.args.held.now l.i (omega arith) (lt-ltb _ _ (omega (arith, w.ensures))))
+
+pub loop-i-preserved : goal.loop-i-preserved
+loop-i-preserved c = some_next c.loop-i.i _ ∙ rw c.loop-i.invariant (le-ltb _ _ (omega (arith, c.long_at.ensures)))
 
 pub returns : goal.returns
-returns c = let l = c.loop-i in l.invariant.1 ∙ exceeds-end _ _ l.i (omega (arith, l.invariant.0, c.loop-i-test.false))
-
-pub loop-i-init : goal.loop-i-init
-loop-i-init c = (search rules, refl)
+returns c =
+    let l = c.loop-i in
+    sym (sym (exceeds-end (λ k. get_or c.args.counts.now k 0) c.args.held.now l.i (omega arith)) ∙ l.invariant)

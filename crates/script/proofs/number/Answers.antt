@@ -1,24 +1,32 @@
--- `number` meets its contract: the invariant: cut off at 2^32, the digits to come after the value so far give the number of the whole.
-use mathlib.Core.Path.{◌≡◌, ◌∙◌}
-use Prim.Native.Nat.{◌+◌, ◌*◌, ◌<◌, min}
-use native.Mathlib.Omega.{arith}
-use lib.ListN.{length, get_or, drop_of_length-le}
-use Rattle.script.specs.Lines.{number_from, number_of, digit_of}
-use Rattle.script.proofs.Reading.{number-next}
+-- `number` meets its contract: the digits to come after the value so far give the number of the whole.
+use Rattle.std.proofs.Common.{◌≡◌, ◌∙◌, ◌+◌, ◌*◌, ◌≤◌, get_or, refl, arith, drop_of_length-le}
+use Rattle.script.specs.Lines.{digit_of, number_of}
+use Rattle.script.proofs.Reading.{no_digits, too_large, is_one}
 use Rattle.script.proofs.number.Goals as goal
 
-pub loop-i-preserved : goal.loop-i-preserved
-loop-i-preserved c =
-    let text = c.args.text.now in
-    let l = c.loop-i in
-    let h : l.i < length text = omega arith in
-    let e : c.cut-v.result ≡ min (10 * l.v + digit_of (get_or text l.i 0)) 4294967296 = omega (arith, c.cut-v.ensures, c.wide.ensures, c.digit.ensures) in
-    (omega arith, omega (arith, c.cut-v.ensures), rw e (number-next text l.i l.v 4294967296 h ∙ l.invariant.2))
+pub returns-then-is_empty-all_below : goal.returns-then-is_empty-all_below
+returns-then-is_empty-all_below c = no_digits c.args.text.now (rw (c.is_empty.ensures, c.all_below.ensures) at c.if-is_empty-all_below.true)
+
+pub loop-x-init : goal.loop-x-init
+unfolding number_of
+loop-x-init c = record { small = omega arith; so_far = refl }
+
+pub returns-in_err-checked_mul : goal.returns-in_err-checked_mul
+returns-in_err-checked_mul c =
+    let l = c.loop-x in
+    let big : 4294967296 ≤ 10 * l.v + digit_of (get_or c.args.text.now l.x-index 0) = omega (arith, c.in_err-checked_mul.ensures) in
+    c.from_residual.ensures ∙ too_large c.args.text.now l.x-index l.v c.loop-x-test.true l.invariant.so_far big
+
+pub returns-in_err-v : goal.returns-in_err-v
+returns-in_err-v c =
+    let l = c.loop-x in
+    let big : 4294967296 ≤ 10 * l.v + digit_of (get_or c.args.text.now l.x-index 0) = omega (arith, c.in_err-v.ensures, c.in_ok-checked_mul.ensures) in
+    c.from_residual-in_err-v.ensures ∙ too_large c.args.text.now l.x-index l.v c.loop-x-test.true l.invariant.so_far big
 
 pub returns : goal.returns
-unfolding number_of
 returns c =
     let text = c.args.text.now in
-    let l = c.loop-i in
-    let e : min l.v 4294967296 ≡ min (number_from 0 text) 4294967296 = rw (drop_of_length-le text {i = l.i} (omega arith)) at l.invariant.2 in
-    omega arith
+    let l = c.loop-x in
+    let e : l.v ≡ number_of text = rw (drop_of_length-le text {i = l.x-index} c.loop-x-test.false) at l.invariant.so_far in
+    let s = l.invariant.small in
+    is_one text l.v (rw (c.is_empty.ensures, c.all_below.ensures) at c.if-is_empty-all_below.false) e (omega arith)

@@ -1,11 +1,9 @@
-use mathlib.Core.Path.{◌≡◌}
-use Prim.Native.Nat.{◌≤◌, ◌-◌, min}
-use lib.ListN.{length, drop}
-use Rattle.script.specs.Lines.{number_from}
+use Rattle.std.proofs.Common.{◌≡◌, ◌<◌, drop}
+use Rattle.script.specs.Lines.{number_from, number_of}
 use Rattle.script.proofs.number.Given as goal
 
-abbrev pub invariant-loop-i : goal.invariant-loop-i
-invariant-loop-i l = (l.i ≤ length l.text) × (l.v ≤ 4294967296) × (min (number_from l.v (drop l.i l.text)) 4294967296 ≡ min (number_from 0 l.text) 4294967296)
-
-abbrev pub decreases-loop-i : goal.decreases-loop-i
-decreases-loop-i l = length l.text - l.i
+abbrev pub invariant-loop-x : goal.invariant-loop-x
+invariant-loop-x l = record {
+  small : l.v < 4294967296;
+  so_far : number_from l.v (drop l.x-index l.text) ≡ number_of l.text;
+}

@@ -1,12 +1,10 @@
 -- `parse` meets its contract: each way out is a case of the definition.
 use mathlib.Core.Path.{◌≡◌, sym, ◌∙◌}
 use mathlib.Core.Bool.{true, false}
-use Prim.Native.Nat.{min}
-use native.Mathlib.Omega.{arith}
 use borrow.Author.Tests.{lt-ltb, le-ltb}
-use lib.ListN.{length, drop}
-use Rattle.script.specs.Lines.{meaning, bytes_of, number_of, is_exchange, is_wait, is_power_up}
-use Rattle.script.proofs.Reading.{none-stored, exchange-hex, wait-fits, length_pairs}
+use lib.ListN.{length}
+use Rattle.script.specs.Lines.{meaning, bytes_of, is_exchange, is_wait, is_power_up}
+use Rattle.script.proofs.Reading.{none-stored, exchange-hex, waits, no_wait, length_pairs}
 use Rattle.script.proofs.parse.Goals as goal
 
 pub returns-then-line-gt600 : goal.returns-then-line-gt600
@@ -30,22 +28,14 @@ returns-then-is_exchange c =
       stored = rw (short, is, sym c.after-hex.ensures) c.store.ensures;
     }
 
-pub overflow_cast-result : goal.overflow_cast-result
-overflow_cast-result c =
-    let is : is_wait c.args.line.now ≡ true = sym c.is_wait.ensures ∙ c.if-is_wait.true in
-    let e : c.number.result ≡ min (number_of (drop 2 c.args.line.now)) 4294967296 = rw c.after.ensures at c.number.ensures in
-    omega (arith, wait-fits c.args.line.now is)
-
-pub returns-then-is_wait : goal.returns-then-is_wait
+pub returns-in-Some : goal.returns-in-Some
 unfolding meaning bytes_of
-returns-then-is_wait c =
+returns-in-Some c =
     let a = c.args in
     let short = le-ltb 600 (length a.line.now) c.if-line-gt600.false in
     let no : is_exchange a.line.now ≡ false = sym c.is_exchange.ensures ∙ c.if-is_exchange.false in
-    let is : is_wait a.line.now ≡ true = sym c.is_wait.ensures ∙ c.if-is_wait.true in
-    let e : c.number.result ≡ min (number_of (drop 2 a.line.now)) 4294967296 = rw c.after.ensures at c.number.ensures in
-    let f : c.number.result ≡ number_of (drop 2 a.line.now) = omega (arith, wait-fits a.line.now is) in
-    record { command = rw (short, no, is, f); stored = rw (short, no) (none-stored a.sent.now) }
+    let is = waits a.line.now c.in-Some.t c.in-Some.ensures in
+    record { command = rw (short, no, is.0, is.1); stored = rw (short, no) (none-stored a.sent.now) }
 
 pub returns-then-is_power_up : goal.returns-then-is_power_up
 unfolding meaning bytes_of
@@ -53,7 +43,7 @@ returns-then-is_power_up c =
     let a = c.args in
     let short = le-ltb 600 (length a.line.now) c.if-line-gt600.false in
     let no : is_exchange a.line.now ≡ false = sym c.is_exchange.ensures ∙ c.if-is_exchange.false in
-    let not : is_wait a.line.now ≡ false = sym c.is_wait.ensures ∙ c.if-is_wait.false in
+    let not : is_wait a.line.now ≡ false = no_wait a.line.now (sym c.in_default.ensures) in
     let is : is_power_up a.line.now ≡ true = sym c.is_power_up.ensures ∙ c.if-is_power_up.true in
     record { command = rw (short, no, not, is); stored = rw (short, no) (none-stored a.sent.now) }
 
@@ -63,6 +53,6 @@ returns c =
     let a = c.args in
     let short = le-ltb 600 (length a.line.now) c.if-line-gt600.false in
     let no : is_exchange a.line.now ≡ false = sym c.is_exchange.ensures ∙ c.if-is_exchange.false in
-    let not : is_wait a.line.now ≡ false = sym c.is_wait.ensures ∙ c.if-is_wait.false in
+    let not : is_wait a.line.now ≡ false = no_wait a.line.now (sym c.in_default.ensures) in
     let nor : is_power_up a.line.now ≡ false = sym c.is_power_up.ensures ∙ c.if-is_power_up.false in
     record { command = rw (short, no, not, nor); stored = rw (short, no) (none-stored a.sent.now) }

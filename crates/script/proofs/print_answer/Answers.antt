@@ -1,13 +1,16 @@
 -- `print_answer` meets its contract: six pieces one after the other.
+use Rattle.std.proofs.Common.{rules}
 use Rattle.script.specs.Answers.{answer_line}
-use Rattle.script.proofs.Printing.{printed-then}
+use Rattle.script.proofs.Printing.{printed_then, printed_as}
 use Rattle.script.proofs.print_answer.Goals as goal
 
 pub returns : goal.returns
 unfolding answer_line
 returns c =
-    printed-then
-    (printed-then
-    (printed-then (printed-then (printed-then c.put_decimal-numbered.ensures c.push-parted.ensures) c.put_decimal-answered.ensures) c.push-parted-2.ensures)
-    c.put_response-shown.ensures)
-    c.push.ensures
+    printed_as
+    (printed_then
+    (printed_then
+    (printed_then (printed_then (printed_then c.decimal.ensures.printed c.push.ensures.printed) (rw c.from.ensures at c.decimal-2.ensures.printed)) c.push-2.ensures.printed)
+    c.response.ensures.printed)
+    c.push-3.ensures.printed)
+    (search rules)

@@ -1,46 +1,44 @@
--- `store` meets its contract: the invariant: the bytes up to i are those of the pairs, the others stay.
-use mathlib.Core.Path.{◌≡◌, ◌∙◌}
-use Prim.Native.Nat.{◌+◌, ◌*◌, ◌≤◌, ◌<◌}
-use native.Mathlib.Omega.{arith}
-use lib.ListN.{length, get_or, get_or-eq_default}
-use Rattle.slices.proofs.Windows.{window-start, loop-step, window-rest}
+-- `store` meets its contract: the bytes up to i are those of the pairs, the others stay.
+use Rattle.std.proofs.Common.{◌≡◌, ◌∙◌, ◌+◌, ◌*◌, ◌≤◌, ◌<◌, length, get_or, take, arith, length-take}
+use lib.ListN.{get_or-eq_default}
+use Rattle.slices.proofs.Windows.{window-start, loop-step, window-end}
 use Rattle.script.specs.Lines.{pairs, digit_of}
-use Rattle.script.proofs.Reading.{below_at, length_pairs, pairs-at}
-use borrow.Author.Rules.{rules}
+use Rattle.script.proofs.Reading.{below_at, length_pairs, pairs-at, change-front}
 use Rattle.script.proofs.store.Goals as goal
 
 pub loop-i-init : goal.loop-i-init
-loop-i-init c = (search rules, search rules, window-start 0 _ _)
+loop-i-init c = window-start 0 _ _
 
-pub overflow_mul-out : goal.overflow_mul-out
-overflow_mul-out c =
-    let text = c.args.text.now in
+pub overflow_mul-byte : goal.overflow_mul-byte
+overflow_mul-byte c =
     let i = c.loop-i.i in
+    let text = c.args.text.now in
+    let n = length-take c.min-n.result c.args.out.now in
+    let f : digit_of (get_or text (2 * i) 0) < 16 = below_at 16 text (2 * i) c.requires (omega arith) in
+    omega (arith, c.digit.ensures)
+
+pub overflow_add-byte : goal.overflow_add-byte
+overflow_add-byte c =
+    let i = c.loop-i.i in
+    let text = c.args.text.now in
+    let n = length-take c.min-n.result c.args.out.now in
     let f : digit_of (get_or text (2 * i) 0) < 16 = below_at 16 text (2 * i) c.requires (omega arith) in
     let g : digit_of (get_or text (2 * i + 1) 0) < 16 = below_at 16 text (2 * i + 1) c.requires (omega arith) in
-    omega (arith, c.digit-high.ensures)
-
-pub overflow_add-out : goal.overflow_add-out
-overflow_add-out c =
-    let text = c.args.text.now in
-    let i = c.loop-i.i in
-    let f : digit_of (get_or text (2 * i) 0) < 16 = below_at 16 text (2 * i) c.requires (omega arith) in
-    let g : digit_of (get_or text (2 * i + 1) 0) < 16 = below_at 16 text (2 * i + 1) c.requires (omega arith) in
-    omega (arith, c.digit-high.ensures, c.digit-low.ensures)
+    omega (arith, c.digit.ensures, c.digit-in-loop-i.ensures)
 
 pub loop-i-preserved : goal.loop-i-preserved
 loop-i-preserved c =
-    let a = c.args in
-    let l = c.loop-i in
-    let h : l.i < length a.out.now = omega arith in
-    let v : 16 * c.digit-high.result + c.digit-low.result ≡ get_or (pairs a.text.now) l.i (get_or a.out.now l.i 0) =
-    omega (arith, c.digit-high.ensures, c.digit-low.ensures, pairs-at a.text.now l.i (get_or a.out.now l.i 0) (omega arith)) in
-    (omega arith, search rules, loop-step 0 l.i _ a.out.now _ l.invariant.2 (omega arith) h v)
+    let i = c.loop-i.i in
+    let text = c.args.text.now in
+    let front = take c.min-n.result c.args.out.now in
+    let n = length-take c.min-n.result c.args.out.now in
+    let v : 16 * c.digit.result + c.digit-in-loop-i.result ≡ get_or (pairs text) i (get_or front i 0) =
+    omega (arith, c.digit.ensures, c.digit-in-loop-i.ensures, pairs-at text i (get_or front i 0) (omega arith)) in
+    loop-step 0 i _ front _ c.loop-i.invariant (omega arith) c.loop-i-test.true v
 
 pub returns : goal.returns
 returns c =
-    let a = c.args in
-    let l = c.loop-i in
-    l.invariant.2
-    ∙ window-rest l.i (get_or (pairs a.text.now)) a.out.now
-    (λ i h lt. let k : length (pairs a.text.now) ≤ i = omega (arith, length_pairs a.text.now, c.least-n.ensures) in get_or-eq_default (pairs a.text.now) _ k)
+    let text = c.args.text.now in
+    let out = c.args.out.now in
+    change-front c.min-n.result (get_or (pairs text)) out _ (omega arith) (c.loop-i.invariant ∙ window-end _ _ _ c.loop-i-test.false)
+    (λ i x h lt. let k : length (pairs text) ≤ i = omega (arith, length_pairs text, c.min-n.ensures) in get_or-eq_default (pairs text) x k)

@@ -2,8 +2,8 @@
 use Rattle.device.proofs.Timed.{foreseen-kept, foreseen-done}
 use Rattle.device.proofs.Device.wait_foreseen.Goals as goal
 
-pub returns-then-answer-ne0 : goal.returns-then-answer-ne0
-returns-then-answer-ne0 c = foreseen-kept _ _ _ _ c.number-answer.ensures c.if-answer-ne0.true
+pub returns-in-Err : goal.returns-in-Err
+returns-in-Err c = rw c.refused.ensures (foreseen-kept _ _ _ _ c.in-Err.ensures)
 
 pub returns : goal.returns
-returns c = foreseen-done _ _ _ c.number-answer.ensures c.if-answer-ne0.false c.rested-device.ensures
+returns c = foreseen-done _ _ _ c.in_default.ensures c.rested.ensures

@@ -9,6 +9,5 @@ use Rattle.device.proofs.packing.write.Goals as goal
 pub returns : goal.returns
 unfolding pack_of
 returns c =
-    let f = c in
-    let d = f.args.d in
-    store-next front_length (front_of d) (d.cycle.slots ++ (word d.cycle.named ++ d.locks)) _ f.write_front.ensures (length_front d) c.write_rest.ensures
+    let d = c.args.d in
+    store-next front_length (front_of d) (d.cycle.slots ++ (word d.cycle.named ++ d.locks)) _ c.write_front.ensures (length_front d) c.write_rest.ensures

@@ -1,20 +1,22 @@
 -- `m25p::rows::read` meets its contract.
-use mathlib.Core.Path.{refl, ◌∙◌}
-use native.Mathlib.Omega.{arith}
-use native.Mathlib.Numerals.{add-one}
-use lib.ListN.{length-set}
+use Rattle.std.proofs.Common.{◌<◌, ap, ◌∙◌, arith, add-one}
+use lib.ListN.{length-set, length-take}
+use lib.Seq.{get_or-take}
+use Rattle.device.specs.Packing.{unpack_of}
 use Rattle.m25p.proofs.Records.{read_next, read-end}
-use borrow.Author.Rules.{rules}
 use Rattle.m25p.proofs.rows.read.Goals as goal
-
-pub loop-at-init : goal.loop-at-init
-loop-at-init c = (search rules, c.least-count.ensures, refl, refl)
 
 pub loop-at-preserved : goal.loop-at-preserved
 loop-at-preserved c =
     let l = c.loop-at in
-    let r = c.args.row.now in
-    (search rules, l.invariant.1, length-set l.records l.at _ ∙ l.invariant.2, rw (add-one l.at) (read_next r l.at l.records (omega (arith, l.invariant)) (omega (arith, l.invariant)) l.invariant.3 c.unpack-came.ensures))
+    let x = c.as_chunks.ensures in
+    let h : l.at < c.min.result = let t = length-take c.min.result c.as_chunks.result.0.now in omega (arith, t) in
+    let e = rw x.front at (c.unpack.ensures ∙ ap unpack_of (get_or-take c.min.result c.as_chunks.result.0.now l.at _ h)) in
+    let t = length-take c.min.result c.as_chunks.result.0.now in
+    (length-set l.records l.at _ ∙ l.invariant.0, rw (add-one l.at) (read_next c.args.row.now l.at _ l.records (omega (arith, l.invariant.0)) (omega (arith, t, x.front_len)) l.invariant.1 e))
 
 pub returns : goal.returns
-returns c = let l = c.loop-at in read-end _ l.at l.records l.invariant.2 (omega (arith, l.invariant)) l.invariant.3
+returns c =
+    let l = c.loop-at in
+    let t = length-take c.min.result c.as_chunks.result.0.now in
+    read-end _ l.at l.records l.invariant.0 (omega (arith, t, c.as_chunks.ensures.front_len)) l.invariant.1

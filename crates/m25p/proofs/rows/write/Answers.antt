@@ -1,36 +1,17 @@
 -- `m25p::rows::write` meets its contract.
-use mathlib.Core.Path.{◌≡◌, refl, ap, ◌∙◌}
-use mathlib.Core.Bool.{true}
-use Prim.Native.Nat.{◌<◌, suc}
-use native.Mathlib.Omega.{arith}
-use native.Mathlib.Numerals.{add-one}
-use lib.ListN.{length}
+use Rattle.std.proofs.Common.{◌<◌, length, ◌∙◌, arith, add-one}
 use Rattle.bus.proofs.Rows.{at-any}
-use Rattle.m25p.proofs.Records.{write-first, written-long, write-next}
-use borrow.Author.Rules.{rules}
+use Rattle.m25p.proofs.Records.{write-next, write-last}
 use Rattle.m25p.proofs.rows.write.Goals as goal
 
-pub loop-at-init : goal.loop-at-init
-loop-at-init c =
-    let a = c.args in
-    let p = c.requires in
-    (search rules, p.0, p.1, search rules, p.2, p.3, refl, write-first a.first a.records a.row.now)
-
-pub loop-at-preserved : goal.loop-at-preserved
-loop-at-preserved c =
-    let l = c.loop-at in
+pub loop-record-preserved : goal.loop-record-preserved
+loop-record-preserved c =
+    let l = c.loop-record in
     let a = c.args in
     let i = l.invariant in
-    let more : l.at < a.end = c.loop-at-test.true in
-    let v = write-next a.first l.at a.end a.records a.row.now i.0 i.1 (omega (arith, i.3, i.2)) i.4 i.5 more l.row i.7 (at-any a.records l.at _ (omega (arith, i.3, i.2, more))) c.write.ensures in
-    (omega (arith, i.0), omega (arith, more), i.2, i.3, i.4, i.5, ap length v ∙ written-long a.first (suc l.at) a.end a.records a.row.now (omega (arith, i.0)) (omega (arith, more)) (omega (arith, i.3, i.2)) i.4 i.5, rw (add-one l.at) v)
-
-pub shape_of-row : goal.shape_of-row
-shape_of-row c = c.loop-at.invariant.6
+    let more : l.record-index < length a.records.now = omega arith in
+    let v = write-next a.first l.record-index a.records.now a.row.now (omega arith) c.requires.0 c.requires.1 more l.row l.from i.1 i.0 (at-any a.records.now l.record-index _ more) c.write.ensures in
+    (omega (arith, i.0), rw (add-one l.record-index) v)
 
 pub returns : goal.returns
-returns c =
-    let l = c.loop-at in
-    let a = c.args in
-    let e : l.at ≡ a.end = omega (arith, l.invariant.1) in
-    rw (← e) l.invariant.7
+returns c = let l = c.loop-record in l.invariant.1 ∙ write-last c.args.first l.record-index c.args.records.now c.args.row.now (omega arith)

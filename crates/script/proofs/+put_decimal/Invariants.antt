@@ -1,5 +1,0 @@
-use Rattle.script.proofs.+put_decimal.Given as goal
-
--- the number itself falls with each call
-abbrev pub decreases-put_decimal : goal.decreases-put_decimal
-decreases-put_decimal l = l.n

@@ -1,6 +1,0 @@
--- `print_bytes` ends: each turn passes a byte.
-use Rattle.std.proofs.Common.{length, ◌-◌}
-use Rattle.show.proofs.print_bytes.Given as goal
-
-abbrev pub decreases-loop-i : goal.decreases-loop-i
-decreases-loop-i g l = length l.s - l.i
