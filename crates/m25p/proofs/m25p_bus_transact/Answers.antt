@@ -37,7 +37,7 @@ write-requires c =
     let r = t in
     let a = r.args in
     let f = turn-fits a.row.now a.array.now a.chip a.sent.now a.pulses a.w a.response.now r.read-records.result r.read-records.ensures r.if-row-ne0.false t.transact-done.ensures c.if-answer-ne0.false in
-    (f.1, f.2)
+    (omega (arith, f.1), f.2)
 
 pub packed_answer-requires-2 : goal.packed_answer-requires-2
 packed_answer-requires-2 c =
