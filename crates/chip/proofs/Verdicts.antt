@@ -9,9 +9,6 @@ use borrow.Author.Tests.{eqb-true, eqb-false, leb-true, ltb-false, not-false}
 use lib.Dec.{eqb, leb, ltb}
 use lib.ListN.{length}
 use Rattle.slices.proofs.Choices.{both, past}
-use Rattle.refusals.specs.declared.Refusal.{Refusal}
-use Rattle.refusals.specs.declared.Refusal.TheVariants.{UnknownPart, ArrayLength, TooManyBytes, TooManyPulses, ResponseShort, NotSound, OddDuration, PackedLength, BadItem, BufferShort, NoBytes, WhileBusy, WhileDeep, UnknownCode, OddLength, LatchReset, Protected, SettingsFrozen, LockFrozen, OddSample, RunTooLong, OutputShort, NoImage, ImageLength, BadBlock, ListShort, MaskLength, OddRow, NoSuchChip, RowArrayLength, TotalsFull}
-use Rattle.refusals.specs.Numbers.{number_of}
 use Rattle.parts.specs.Parts.{figures_of}
 use Rattle.device.specs.declared.Device.{Device}
 use Rattle.device.specs.Device.{is_busy, is_deep, sound}
@@ -117,40 +114,6 @@ not-ignored d r n pulses w at h =
     }
 
 -- ---- the verdict
-
--- no refusal has the number 0
-pub refusal_some : (r : Refusal) → eqb (number_of r) 0 ≡ false
-refusal_some UnknownPart = refl
-refusal_some ArrayLength = refl
-refusal_some TooManyBytes = refl
-refusal_some TooManyPulses = refl
-refusal_some ResponseShort = refl
-refusal_some NotSound = refl
-refusal_some OddDuration = refl
-refusal_some PackedLength = refl
-refusal_some BadItem = refl
-refusal_some BufferShort = refl
-refusal_some NoBytes = refl
-refusal_some WhileBusy = refl
-refusal_some WhileDeep = refl
-refusal_some UnknownCode = refl
-refusal_some OddLength = refl
-refusal_some LatchReset = refl
-refusal_some Protected = refl
-refusal_some SettingsFrozen = refl
-refusal_some LockFrozen = refl
-refusal_some OddSample = refl
-refusal_some RunTooLong = refl
-refusal_some OutputShort = refl
-refusal_some NoImage = refl
-refusal_some ImageLength = refl
-refusal_some BadBlock = refl
-refusal_some ListShort = refl
-refusal_some MaskLength = refl
-refusal_some OddRow = refl
-refusal_some NoSuchChip = refl
-refusal_some RowArrayLength = refl
-refusal_some TotalsFull = refl
 
 -- the three verdicts, by the number of the host and the number of the chip
 pub data Decision (host chip : ℕ) : Verdict → Type 0 where

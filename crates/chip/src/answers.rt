@@ -158,7 +158,7 @@ fn chip_accepts(
 }
 
 // What becomes of a transaction of n bytes with an array and a response of these lengths.
-#[tactic(auto, using(crate::proofs::Verdicts::refusal_some), unfolding(crate::specs::Answers::decided))]
+#[tactic(auto, using(refusals::proofs::Laws::refusal_some), unfolding(crate::specs::Answers::decided))]
 pub(crate) fn judge(
     device: Device,
     asked: Instruction,

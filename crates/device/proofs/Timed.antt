@@ -10,6 +10,7 @@ use lib.Dec.{eqb}
 use lib.ListN.{length, replicate, length-replicate}
 use Rattle.refusals.specs.declared.Refusal.{Refusal}
 use Rattle.refusals.specs.Numbers.{number_of}
+use Rattle.refusals.proofs.Laws.{refused_by}
 use Rattle.parts.specs.Parts.{figures_of}
 use Rattle.device.specs.declared.Device.{Device}
 use Rattle.device.specs.Chip.{Chip, chip}
@@ -22,10 +23,6 @@ use Rattle.device.proofs.Outcomes.{same-checked}
 pub time-next : (d : Device) (n next : ℕ) → sound d ≡ true → n ≡ (figures_of d.part).bytes → time_number d n next ≡ next
 unfolding time_number
 time-next d n next s l = rw (s, eq-eqb n (figures_of d.part).bytes l)
-
--- no refusal has the number 0
-pub refused_by : (r : Refusal) → number_of r ≡ 0 → ⊥
-refused_by r e = grind arith
 
 -- what refuses with the next number 0 refuses with every other
 pub time-kept : (d : Device) (n next : ℕ) (r : Refusal) → number_of r ≡ time_number d n 0 → number_of r ≡ time_number d n next

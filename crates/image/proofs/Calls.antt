@@ -8,6 +8,7 @@ use Rattle.parts.specs.Parts.{figures_of, known_part}
 use Rattle.parts.proofs.Laws.{sane}
 use Rattle.refusals.specs.declared.Refusal.{Refusal}
 use Rattle.refusals.specs.Numbers.{number_of}
+use Rattle.refusals.proofs.Laws.{refused_by}
 use Rattle.image.specs.declared.Reply.{Reply}
 use Rattle.image.specs.Images.{bad_places, listed}
 use Rattle.image.specs.Calls.{blocks_of, copy_number, salvage_number, reply, found_bad, read_reply, salvage_reply}
@@ -58,10 +59,6 @@ copy-fine p array image e f k = rw (k, eq-eqb _ _ e, eq-eqb _ _ f)
 -- an image of the right length has the part's blocks
 pub counted : (image blocks : ℕ) → image ≡ blocks * 512 → image / 512 ≡ blocks
 counted image blocks e = omega arith
-
--- a refused call has a number
-pub refused_by : (r : Refusal) → number_of r ≡ 0 → ⊥
-refused_by r e = grind arith
 
 -- the first of the bad places is the reader's 33, and where there is none, there is no bad block
 found_first : (xs : List ℕ) (place : ℕ) → Some place ≡ slice_get xs 0 → reply 33 place ≡ found_bad xs

@@ -28,7 +28,7 @@ fn alone(device: Device, array: &mut [u8], code: u8, w: bool) -> Device
 }
 
 // One job: write enable, the program or erase that is sent, a wait as long as the longest cycle, write disable.
-#[tactic(auto, using(chip::proofs::Verdicts::refusal_some), unfolding(crate::specs::Call::jobbed, chip::specs::Outcome::outcome_of))]
+#[tactic(auto, using(refusals::proofs::Laws::refusal_some), unfolding(crate::specs::Call::jobbed, chip::specs::Outcome::outcome_of))]
 pub fn run_job(
     device: Device,
     array: &mut [u8],

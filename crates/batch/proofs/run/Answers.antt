@@ -1,7 +1,7 @@
 -- `batch::run` meets its contract.
 use Rattle.std.proofs.Common.{length, sym, rules}
 use borrow.Author.Tests.{eqb-false}
-use Rattle.chip.proofs.Verdicts.{refusal_some}
+use Rattle.refusals.proofs.Laws.{refusal_some}
 use Rattle.batch.proofs.Runs.{accepted, refused, done}
 use Rattle.batch.proofs.run.Goals as goal
 

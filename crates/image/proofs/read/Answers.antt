@@ -2,7 +2,8 @@
 use Rattle.std.proofs.Common.{◌≡◌, ℕ, sym, ap, ◌∙◌, arith}
 use Rattle.slices.proofs.Choices.{other}
 use Rattle.image.specs.declared.Reply.{Reply}
-use Rattle.image.proofs.Calls.{copy_fits, blocks_hold, blocks_needed, refused_by, read-refused, read-bad, read-fine}
+use Rattle.image.proofs.Calls.{copy_fits, blocks_hold, blocks_needed, read-refused, read-bad, read-fine}
+use Rattle.refusals.proofs.Laws.{refused_by}
 use Rattle.image.proofs.read.Goals as goal
 
 pub returns-in-Err : goal.returns-in-Err

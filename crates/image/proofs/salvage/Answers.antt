@@ -1,7 +1,8 @@
 -- `image::salvage` meets its contract.
 use Rattle.std.proofs.Common.{sym, ◌∙◌, arith}
 use Rattle.slices.proofs.Choices.{other}
-use Rattle.image.proofs.Calls.{salvage-fits, counted, refused_by, salvage-refused, salvage-done}
+use Rattle.image.proofs.Calls.{salvage-fits, counted, salvage-refused, salvage-done}
+use Rattle.refusals.proofs.Laws.{refused_by}
 use Rattle.image.proofs.salvage.Goals as goal
 
 pub returns-in-Err : goal.returns-in-Err

@@ -1,7 +1,7 @@
 -- `pins::run` meets its contract.
 use Rattle.std.proofs.Common.{refl, sym, ◌∙◌, length, rules}
 use borrow.Author.Tests.{eqb-false}
-use Rattle.chip.proofs.Verdicts.{refusal_some}
+use Rattle.refusals.proofs.Laws.{refusal_some}
 use Rattle.pins.proofs.Runs.{accepted, refused, carried}
 use Rattle.pins.proofs.run.Goals as goal
 

@@ -2,7 +2,7 @@
 use Rattle.std.proofs.Common.{sym, ◌∙◌}
 use Rattle.std.proofs.lemmas.Result.{err_from_is_err_and}
 use borrow.Author.Tests.{eqb-false}
-use Rattle.chip.proofs.Verdicts.{refusal_some}
+use Rattle.refusals.proofs.Laws.{refusal_some}
 use Rattle.batch.proofs.Runs.{accepted}
 use Rattle.report.proofs.Runs.{number-form, number-sums}
 use Rattle.report.proofs.accepts.Goals as goal

@@ -1,7 +1,7 @@
 -- `report::run` meets its contract.
 use Rattle.std.proofs.Common.{sym, lit≤}
 use borrow.Author.Tests.{eqb-false}
-use Rattle.chip.proofs.Verdicts.{refusal_some}
+use Rattle.refusals.proofs.Laws.{refusal_some}
 use Rattle.report.proofs.Runs.{number-none, sums-fit, refused, done}
 use Rattle.report.proofs.run.Goals as goal
 
