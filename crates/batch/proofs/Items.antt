@@ -1,6 +1,6 @@
 -- Laws of the items: the next one as the code finds it, and what the first pass finds.
 -- Assumes nothing.
-use Rattle.std.proofs.Common.{◌≡◌, ℕ, zero, suc, ◌+◌, ◌/◌, ◌%◌, ◌<◌, ◌≤◌, min, max, Bool, true, false, cond, ◌&&◌, eqb, List, [], ◌∷◌, map, length, take, drop, sym, refl, ap, ◌∙◌, le_refl, arith, length-drop, length-take}
+use Rattle.std.proofs.Common.{◌≡◌, ℕ, zero, suc, ◌+◌, ◌/◌, ◌%◌, ◌<◌, ◌≤◌, min, max, Bool, true, false, cond, ◌&&◌, eqb, List, [], ◌∷◌, map, length, take, drop, refl, ap, ◌∙◌, le_refl, arith, length-drop, length-take}
 use native.Mathlib.Nat.{zero-min, suc-min-suc}
 use lib.Seq.{take-nil, drop-nil}
 use Rattle.slices.specs.Bytes.{word_at}
@@ -107,10 +107,3 @@ measured_next {items} {rest} {s} i is e m =
       room = omega (arith, rw e at m.room);
       places = omega (arith, rw e at m.places);
     }
-
-and-true : (a : Bool) → a && true ≡ a
-and-true true = refl
-and-true false = refl
-
-pub measured-end : {items rest : List (List ℕ)} {s : Sizes} → rest ≡ [] → Measured items rest s → (s.good ≡ all_good items) × (s.room ≡ room_for (map event_in items)) × (s.count ≡ length (map event_in items))
-measured-end {items} {rest} {s} z m = (sym (and-true s.good) ∙ (rw z at m.good), omega (arith, rw z at m.room), omega (arith, rw z at m.places))

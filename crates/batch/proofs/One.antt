@@ -1,18 +1,14 @@
 -- One item carried out: what a good item is, and that call and event agree.
 -- Assumes nothing.
-use Rattle.std.proofs.Common.{◌≡◌, ℕ, ◌+◌, ◌/◌, ◌%◌, ◌<◌, ◌≤◌, Bool, true, false, ◌&&◌, ◌||◌, eqb, ltb, List, [], ◌∷◌, length, drop, refl, ap, ◌∙◌, arith, ltb-true, eq-eqb, ne_eqb, eqb-true}
+use Rattle.std.proofs.Common.{◌≡◌, ℕ, ◌+◌, ◌/◌, ◌%◌, ◌<◌, ◌≤◌, Bool, true, false, ◌&&◌, ◌||◌, eqb, ltb, List, length, drop, refl, ap, ◌∙◌, ltb-true, eq-eqb, ne_eqb, eqb-true}
 use mathlib.Core.Bool.{false≢true}
 use Rattle.slices.specs.Bytes.{word_at}
 use Rattle.slices.proofs.Choices.{both}
-use Rattle.device.specs.declared.Checked.{Checked}
-use Rattle.device.specs.Time.{wait_call, Handed}
-use Rattle.chip.specs.declared.Answer.{Answer}
 use Rattle.chip.specs.declared.Done.{Done}
-use Rattle.chip.specs.Outcome.{Outcome, bare, Transacted}
+use Rattle.chip.specs.Outcome.{Outcome, Transacted}
 use Rattle.chip.specs.Events.{Chip, Good, sends, waits}
 use Rattle.chip.proofs.Events.{sent_is}
 use Rattle.batch.specs.Items.{length_in, flag_in, good_item, event_in}
-use Rattle.batch.specs.Batch.{room_of}
 use Rattle.batch.specs.Found.{OneDone}
 
 module _ (item : List ℕ) where
@@ -36,17 +32,6 @@ module _ (item : List ℕ) where
         go : (b : Bool) → ltb (flag_in item) 16 ≡ b → b || false ≡ true → flag_in item < 16
         go true e h = ltb-true (flag_in item) 16 e
         go false e h = absurd (false≢true h)
-
-empty : (xs : List ℕ) → length xs ≡ 0 → xs ≡ []
-empty [] e = refl
-empty (x ∷ xs) e = absurd (omega arith)
-
--- a wait
-pub one-waits : (c : Chip) (item : List ℕ) → flag_in item ≡ 16 → (response : List ℕ) → length response ≡ room_of (event_in item) → {a : Answer} {r : Checked} {array' : List ℕ} → a ≡ bare r.answer
-    → Handed (wait_call c (word_at item 3)) r array' → OneDone (event_in item) c (record { answer = a; device = r.device }) array' response
-one-waits c item e response l {a} {r} {array'} b h =
-    let w = waits-is item e in
-    rw w (record { answer = b ∙ ap bare h.answer; device = h.device; memory = h.memory; line = empty response (l ∙ ap room_of w) })
 
 -- a transaction
 pub one-sends : (c : Chip) → Good c → (bytes : List ℕ) (pulses : ℕ) (w : Bool) → length bytes ≤ 65536 → pulses ≤ 7 → (response : List ℕ) → length response ≡ length bytes

@@ -93,6 +93,7 @@ fn carry_all(
     ensures { CarriedAs (carried_from (events_of items.now) (chip device array.old) 0 responses.old 0 answers.old 0) result array.new responses.new answers.new }
 {
     let mut tally = Tally { device, missing: 0 };
+    // `from` by hand; tried: of the parts that `split_at_mut` cuts off in a loop, nothing is known after it
     let mut from = 0;
     for (k, item) in EachItem::of(items).enumerate() {
         let end = from + room(item);

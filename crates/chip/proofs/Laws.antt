@@ -25,7 +25,7 @@ use Rattle.chip.specs.declared.answers.Verdict.{Verdict}
 use Rattle.chip.specs.declared.answers.Verdict.TheVariants.{Executed}
 use Rattle.chip.specs.declared.Answer.{Answer}
 use Rattle.chip.specs.Table.{address_of, only_if, instruction_in}
-use Rattle.chip.specs.Answers.{verdict_of}
+use Rattle.chip.specs.Answers.{chip_number, decided, host_number, verdict_of}
 use Rattle.chip.specs.Line.{Driven, silent, drives, on_line, kth, heard, heard_row, driven, lined, driving, driving_at, first_from, first_of, count_of, span_of}
 use Rattle.chip.specs.Outcome.{Outcome, outcome_of, transacted, Meets, Foreseen, Delivered}
 use Rattle.chip.proofs.Lines.{driven-from, driven-before, span-is}
@@ -86,6 +86,12 @@ count-le d array sent = sum-within 0 (λ i x. driving_at d array sent i) sent (�
 pub ruleset span_bounds = (first-le, count-le)
 
 -- ---- the promise, by the verdict
+
+-- what the code judges of the instruction that it read is the verdict
+pub verdict-so : (d : Device) (array : ℕ) (sent : List ℕ) (pulses : ℕ) (w : Bool) (response : ℕ) (i : Instruction) {v : Verdict} → i ≡ instruction_in d sent
+    → v ≡ decided (host_number d array (length sent) pulses response) (chip_number d i.row (length sent) pulses w i.address) → verdict_of d array sent pulses w response ≡ v
+unfolding verdict_of
+verdict-so d array sent pulses w response i e h = sym (h ∙ rw e)
 
 -- what is executed is no longer than the longest
 pub executed_short : (d : Device) (array : ℕ) (sent : List ℕ) (pulses : ℕ) (w : Bool) (response : ℕ) → verdict_of d array sent pulses w response ≡ Executed → length sent ≤ 65536

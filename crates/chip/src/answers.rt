@@ -1,8 +1,8 @@
 // The answer numbers: the first that applies.
-ghost use Rattle.std.specs.Prelude.{◌≡◌, cond, not, ◌&&◌, length};
+ghost use Rattle.std.specs.Prelude.{◌≡◌, cond, not, ◌&&◌};
 ghost use Rattle.refusals.specs.Numbers.{answer_of};
 ghost use Rattle.parts.specs.Parts.{figures_of};
-ghost use Rattle.chip.specs.Answers.{host_number, writes_settings, in_protected, protected_at, protected_any, guarded_in, guarded, frozen, as_needed, chip_number, verdict_of};
+ghost use Rattle.chip.specs.Answers.{host_number, writes_settings, in_protected, protected_at, protected_any, guarded_in, guarded, frozen, as_needed, chip_number, decided};
 
 use crate::LONGEST;
 use crate::table::{Instruction, Row, Turn};
@@ -157,23 +157,22 @@ fn chip_accepts(
     guard_accepts(row.turn, device, w, at)
 }
 
-// What becomes of a transaction with an array and a response of these lengths.
-#[tactic(auto, using(crate::proofs::Verdicts::refusal_some), unfolding(crate::specs::Answers::verdict_of, crate::specs::Answers::decided))]
+// What becomes of a transaction of n bytes with an array and a response of these lengths.
+#[tactic(auto, using(crate::proofs::Verdicts::refusal_some), unfolding(crate::specs::Answers::decided))]
 pub(crate) fn judge(
     device: Device,
+    asked: Instruction,
     array: usize,
-    sent: &[u8],
+    n: usize,
     pulses: u32,
     w: bool,
     response: usize,
 ) -> Verdict
-    ensures { result ≡ verdict_of device array sent.now pulses w response }
+    ensures { result ≡ decided (host_number device array n pulses response) (chip_number device asked.row n pulses w asked.address) }
 {
-    let n = sent.len();
     if let Err(refusal) = host_accepts(device, array, n, pulses, response) {
         return Verdict::Refused(refusal.into());
     }
-    let asked = Instruction::read(device, sent);
     if let Err(refusal) = chip_accepts(device, asked.row, n, pulses, w, asked.address) {
         return Verdict::Ignored(refusal.into());
     }

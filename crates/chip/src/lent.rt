@@ -1,7 +1,7 @@
 // The transaction on a record that is lent and updated there, with the same answers.
 ghost use Rattle.chip.specs.Outcome.{Transacted};
 
-use crate::{Answer, Done, transact};
+use crate::{Answer, transact};
 use device::Device;
 
 // One transaction: the record is lent, and holds the next one afterwards.
@@ -18,20 +18,4 @@ pub fn transact_lent(
     let done = transact(*device, array, sent, pulses, w, response);
     *device = done.device;
     done.answer
-}
-
-// The same on a record that is passed by value: whoever calls this needs no walk.
-pub fn transact_via(
-    device: Device,
-    array: &mut [u8],
-    sent: &[u8],
-    pulses: u32,
-    w: bool,
-    response: &mut [u8],
-) -> Done
-    ensures { Transacted device array.old sent.now pulses w response.old result.answer result.device array.new response.new }
-{
-    let mut d = device;
-    let answer = transact_lent(&mut d, array, sent, pulses, w, response);
-    Done { answer, device: d }
 }

@@ -4,7 +4,7 @@
 ghost use Rattle.std.specs.Prelude.{◌≡◌, ◌≤◌, length, IfOk};
 ghost use Rattle.parts.specs.Parts.{figures_of};
 ghost use Rattle.refusals.specs.Numbers.{answer_of};
-ghost use Rattle.chip.specs.Table.{longest, sector_in};
+ghost use Rattle.chip.specs.Table.{longest, sector_in, instruction_in};
 ghost use Rattle.chip.specs.Answers.{delivery_answer};
 ghost use Rattle.chip.specs.Outcome.{bare, executed_with, outcome_of, Meets, Transacted, Foreseen, Delivered};
 ghost use Rattle.chip.specs.declared.answers.Verdict.TheVariants.{Executed};
@@ -87,11 +87,17 @@ fn executed(device: Device, asked: Instruction, span: Span, missing: u32, sent: 
 
 // Executes a transaction: the line, the bits missing, the record. The array is read only: a cycle that is started changes it at its end.
 #[tactic(auto, using(crate::proofs::Laws::span_bounds), unfolding(crate::specs::Outcome::outcome_of))]
-fn execute(device: Device, array: &[u8], sent: &[u8], response: &mut [u8]) -> Done
-    requires { length sent.now ≤ longest }
+fn execute(
+    device: Device,
+    asked: Instruction,
+    array: &[u8],
+    sent: &[u8],
+    response: &mut [u8],
+) -> Done
+    requires asked { asked ≡ instruction_in device sent.now }
+    requires short { length sent.now ≤ longest }
     ensures { Meets (outcome_of Executed device array.now sent.now response.old) result.answer result.device array.now response.new }
 {
-    let asked = Instruction::read(device, sent);
     let span = line::respond(device, asked, array, sent, response);
     let missing = change::missing_of(asked, sent, array);
     executed(device, asked, span, missing, sent)
@@ -99,7 +105,7 @@ fn execute(device: Device, array: &[u8], sent: &[u8], response: &mut [u8]) -> Do
 
 // One transaction: the bytes sent, the further pulses, and the level of W as Chip Select rises. No transaction changes a byte of the array: a cycle does, at its end.
 // The bytes, the pulses and W each by itself, as the calls from C hand them.
-#[tactic(auto, using(crate::proofs::Laws::executed_short), unfolding(crate::specs::Outcome::transacted, crate::specs::Outcome::outcome_of))]
+#[tactic(auto, using(crate::proofs::Laws::executed_short), unfolding(crate::specs::Outcome::transacted, crate::specs::Outcome::outcome_of, crate::specs::Answers::verdict_of))]
 pub fn transact(
     device: Device,
     array: &mut [u8],
@@ -110,18 +116,20 @@ pub fn transact(
 ) -> Done
     ensures { Transacted device array.old sent.now pulses w response.old result.answer result.device array.new response.new }
 {
-    match answers::judge(device, array.len(), sent, pulses, w, response.len()) {
+    let asked = Instruction::read(device, sent);
+    let (size, n, room) = (array.len(), sent.len(), response.len());
+    match answers::judge(device, asked, size, n, pulses, w, room) {
         Verdict::Refused(number) => Done::bare(number, device),
         Verdict::Ignored(number) => {
-            slices::fill_part(response, 0, sent.len(), 0xFF);
+            slices::fill_part(response, 0, n, 0xFF);
             Done::bare(number, device)
         }
-        Verdict::Executed => execute(device, array, sent, response),
+        Verdict::Executed => execute(device, asked, array, sent, response),
     }
 }
 
 // What a transaction would answer on an array and a response of these lengths, and the record that it would leave. Nothing is touched. Bits missing are not foreseen: the array alone tells them, and the answer has 0.
-#[tactic(auto, using(crate::proofs::Laws::executed_short), unfolding(crate::specs::Outcome::transacted, crate::specs::Outcome::outcome_of))]
+#[tactic(auto, using(crate::proofs::Laws::executed_short), unfolding(crate::specs::Outcome::transacted, crate::specs::Outcome::outcome_of, crate::specs::Answers::verdict_of))]
 pub fn foreseen(
     device: Device,
     array: usize,
@@ -132,11 +140,12 @@ pub fn foreseen(
 ) -> Done
     ensures { Foreseen device array sent.now pulses w response result.answer result.device }
 {
-    match answers::judge(device, array, sent, pulses, w, response) {
+    let asked = Instruction::read(device, sent);
+    let n = sent.len();
+    match answers::judge(device, asked, array, n, pulses, w, response) {
         Verdict::Refused(number) | Verdict::Ignored(number) => Done::bare(number, device),
         Verdict::Executed => {
-            let asked = Instruction::read(device, sent);
-            let span = line::span_driven(device, asked, sent.len());
+            let span = line::span_driven(device, asked, n);
             executed(device, asked, span, 0, sent)
         }
     }

@@ -1,10 +1,10 @@
 // The M25PE40: the worked cases P1 to P48 of docs/M25PE40.md that a script can say, and cases of our own. A setting by `=` goes by a power-up, so that the lock registers are 0 after it.
-use crate::m25p40;
+use crate::steps::case;
 use std::io;
 
 // A case on part 6.
 fn run(rt: &impl Print, name: &[u8], script: &[u8]) -> io::Result<()> {
-    m25p40(rt, name, 6, script)
+    case::<524_288>(rt, name, 6, script)
 }
 
 // Identification, codes, deep power-down and its release, settings, reads.
@@ -14,7 +14,7 @@ fn codes(rt: &impl Print) -> io::Result<()> {
     // 9E and 90 are unknown
     run(rt, b"P2", b"x 1 0 9E00;x 1 0 9000;s")?;
     // the five new codes are unknown on the M25P40
-    m25p40(
+    case::<524_288>(
         rt,
         b"P3",
         2,
@@ -145,8 +145,8 @@ fn refused(rt: &impl Print) -> io::Result<()> {
     )
 }
 
-// Lock registers read and written.
-fn registers(rt: &impl Print) -> io::Result<()> {
+// Lock registers read.
+fn registers_read(rt: &impl Print) -> io::Result<()> {
     // from byte 4 on the register of the sector, again and again
     run(
         rt,
@@ -159,7 +159,11 @@ fn registers(rt: &impl Print) -> io::Result<()> {
         rt,
         b"P25",
         b"x 1 0 DB000000;x 1 0 E800000000;x 1 0 E503000001;w 3;x 1 0 E803000000",
-    )?;
+    )
+}
+
+// Lock registers written.
+fn registers_written(rt: &impl Print) -> io::Result<()> {
     // written at once, with the latch reset, and its neighbours not
     run(
         rt,
@@ -192,7 +196,7 @@ fn registers(rt: &impl Print) -> io::Result<()> {
     )
 }
 
-// Power: cycles cut and completed, and lock registers.
+// Power: cycles cut and completed.
 fn power(rt: &impl Print) -> io::Result<()> {
     // P36 and P37 with one byte throughout the mask: cut, the bytes named are ored with the mask and the others stay; completed by a power-up, they are what was sent
     run(
@@ -210,7 +214,11 @@ fn power(rt: &impl Print) -> io::Result<()> {
         rt,
         b"erase-power",
         b"x 1 0 020000FFA0;= 0 0 1;x 1 0 020001FFA0A0;= 0 0 1;x 1 0 02000200A0;= 0 0 1;x 1 0 02001000A0;= 0 0 1;x 1 0 DB000180;l 05 1;a 0000FF;a 000100;a 0001FF;a 000200;x 1 0 06;x 1 0 20000ABC;l 0A 0;a 0000FF;a 000100;a 0001FF;a 000200;a 001000",
-    )?;
+    )
+}
+
+// Lock registers over a power-up, a power loss, and all else.
+fn lock_power(rt: &impl Print) -> io::Result<()> {
     // P41: frozen registers stay over a wait; a power-up, and a loss in deep power-down, make them 0
     run(
         rt,
@@ -242,6 +250,8 @@ pub(crate) fn cases(rt: &impl Print) -> io::Result<()> {
     page_writes(rt)?;
     erases(rt)?;
     refused(rt)?;
-    registers(rt)?;
-    power(rt)
+    registers_read(rt)?;
+    registers_written(rt)?;
+    power(rt)?;
+    lock_power(rt)
 }

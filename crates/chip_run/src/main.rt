@@ -2,35 +2,21 @@
 // K14 is not here: it needs the 16 MiB of the M25P128, and is proved.
 #![tactic(auto)]
 
+mod entries;
 mod long;
 mod m25pe40;
-mod passing;
 mod protected;
 mod refused;
 mod steps;
 mod text;
 
+use protected::{Sectors, table};
 use std::io;
+use steps::case;
 
-// A case on the bench part: delivered with durations 3, 5, 9, 2, then the latch set.
+// A case on the bench part.
 fn bench(rt: &impl Print, name: &[u8], script: &[u8]) -> io::Result<()> {
-    let mut a = [0; 4096];
-    let mut b = [0; 4096];
-    steps::case(rt, name, 0, &mut a, &mut b, script)
-}
-
-// The same on an M25P10-A: part 1, or part 5, the older one.
-fn m25p10a(rt: &impl Print, name: &[u8], part: u32, script: &[u8]) -> io::Result<()> {
-    let mut a = [0; 131_072];
-    let mut b = [0; 131_072];
-    steps::case(rt, name, part, &mut a, &mut b, script)
-}
-
-// The same on an M25P40, part 2, or an M25PE40, part 6.
-pub(crate) fn m25p40(rt: &impl Print, name: &[u8], part: u32, script: &[u8]) -> io::Result<()> {
-    let mut a = [0; 524_288];
-    let mut b = [0; 524_288];
-    steps::case(rt, name, part, &mut a, &mut b, script)
+    case::<4096>(rt, name, 0, script)
 }
 
 // K1 to K7.
@@ -256,28 +242,28 @@ fn refusals(rt: &impl Print) -> io::Result<()> {
 // The M25P10-A.
 fn on_m25p10a(rt: &impl Print) -> io::Result<()> {
     // 20 20 11, then 00; the signature is 10
-    m25p10a(
+    case::<131_072>(
         rt,
         b"M25P10-A-identification",
         1,
         b"x 1 0 9F0000000000;x 1 0 AB00000000",
     )?;
     // WRSR takes bits 3 and 2 alone: BP 3 of FF, BP 0 of 10
-    m25p10a(
+    case::<131_072>(
         rt,
         b"M25P10-A-bit-4",
         1,
         b"x 1 0 01FF;x 1 0 0500;w 2;x 1 0 0500;= 0 0 1;x 1 0 0110;w 2;x 1 0 0500",
     )?;
     // FFFFFF is the last byte, 01FFFF
-    m25p10a(
+    case::<131_072>(
         rt,
         b"M25P10-A-roll-over",
         1,
         b"x 1 0 0201FFFF5A;= 0 0 1;x 1 0 02000000C3;w 3;x 1 0 03FFFFFF0000;x 1 0 0BFFFFFF000000",
     )?;
     // BP 1 protects from 018000 on
-    m25p10a(
+    case::<131_072>(
         rt,
         b"M25P10-A-protected",
         1,
@@ -288,28 +274,28 @@ fn on_m25p10a(rt: &impl Print) -> io::Result<()> {
 // The older M25P10-A.
 fn on_older_m25p10a(rt: &impl Print) -> io::Result<()> {
     // 9F gives 14 and drives nothing; the signature is 10
-    m25p10a(
+    case::<131_072>(
         rt,
         b"M25P10-A-older-identification",
         5,
         b"x 1 0 9F0000000000;x 1 7 9F;x 1 0 AB00000000",
     )?;
     // 14 while busy too, where what it knows gives 12
-    m25p10a(
+    case::<131_072>(
         rt,
         b"M25P10-A-older-busy",
         5,
         b"x 1 0 0201FFFF5A;x 1 0 9F0000;x 1 0 AB;x 1 0 0500;w 3;x 1 0 9F0000;a 01FFFF",
     )?;
     // and in deep power-down, which AB releases
-    m25p10a(
+    case::<131_072>(
         rt,
         b"M25P10-A-older-deep",
         5,
         b"x 1 0 B9;x 1 0 9F0000;x 1 0 0500;x 1 0 AB00000000;x 1 0 0500",
     )?;
     // BP 1 protects from 018000 on
-    m25p10a(
+    case::<131_072>(
         rt,
         b"M25P10-A-older-protected",
         5,
@@ -320,35 +306,35 @@ fn on_older_m25p10a(rt: &impl Print) -> io::Result<()> {
 // The M25P40.
 fn on_m25p40(rt: &impl Print) -> io::Result<()> {
     // 20 20 13, then 00; the signature is 12
-    m25p40(
+    case::<524_288>(
         rt,
         b"M25P40-identification",
         2,
         b"x 1 0 9F0000000000;x 1 0 AB00000000",
     )?;
     // WRSR takes bits 4 to 2: BP 7 of FF, BP 4 of 10
-    m25p40(
+    case::<524_288>(
         rt,
         b"M25P40-bit-4",
         2,
         b"x 1 0 01FF;x 1 0 0500;w 2;x 1 0 0500;= 0 0 1;x 1 0 0110;w 2;x 1 0 0500",
     )?;
     // FFFFFF is the last byte, 07FFFF
-    m25p40(
+    case::<524_288>(
         rt,
         b"M25P40-roll-over",
         2,
         b"x 1 0 0207FFFF5A;= 0 0 1;x 1 0 02000000C3;w 3;x 1 0 03FFFFFF0000;x 1 0 0BFFFFFF000000",
     )?;
     // BP 1 protects from 070000 on
-    m25p40(
+    case::<524_288>(
         rt,
         b"M25P40-protected",
         2,
         b"= 0 1 1;x 1 0 0206FFFF00;= 0 1 1;x 1 0 0207000000;x 1 0 C7",
     )?;
     // all eight sectors are erased
-    m25p40(
+    case::<524_288>(
         rt,
         b"M25P40-bulk-erase",
         2,
@@ -358,16 +344,22 @@ fn on_m25p40(rt: &impl Print) -> io::Result<()> {
 
 // The protected sectors of each BP: document 01's table, a P for each protected one.
 fn protected_areas(rt: &impl Print) -> io::Result<()> {
-    let mut a = [0; 4096];
-    let mut b = [0; 4096];
-    protected::table(rt, b"protected bench", 0, &mut a, &mut b, 4, 1024, 4)?;
-    let mut c = [0; 131_072];
-    let mut d = [0; 131_072];
-    protected::table(rt, b"protected M25P10-A", 1, &mut c, &mut d, 4, 32_768, 4)?;
-    let mut e = [0; 524_288];
-    let mut f = [0; 524_288];
-    protected::table(rt, b"protected M25P40", 2, &mut e, &mut f, 8, 65_536, 8)?;
-    protected::table(rt, b"protected M25PE40", 6, &mut e, &mut f, 8, 65_536, 8)
+    let bench = Sectors {
+        count: 4,
+        bytes: 1024,
+    };
+    let m25p10a = Sectors {
+        count: 4,
+        bytes: 32_768,
+    };
+    let m25p40 = Sectors {
+        count: 8,
+        bytes: 65_536,
+    };
+    table::<4096>(rt, b"protected bench", 0, bench, 4)?;
+    table::<131_072>(rt, b"protected M25P10-A", 1, m25p10a, 4)?;
+    table::<524_288>(rt, b"protected M25P40", 2, m25p40, 8)?;
+    table::<524_288>(rt, b"protected M25PE40", 6, m25p40, 8)
 }
 
 fn main(rt: HostRuntime) -> io::Result<()> {

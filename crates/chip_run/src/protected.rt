@@ -1,110 +1,71 @@
 // The protected area of each BP, found by erasing at both ends of each sector.
-use crate::{steps, text};
+ghost use Rattle.std.specs.Prelude.{◌<◌, ◌^◌};
+
+use crate::entries::{Case, Entry, settings};
+use chip::lent::transact_lent;
 use device::Device;
 use std::io;
 
-// The letter of two answers: a dot where both are executed, P where both give 17.
-fn letter(x: u8, y: u8) -> u8 {
-    if (x == 0) & (y == 0) {
-        return b'.';
-    }
-    if (x == 17) & (y == 17) {
-        return b'P';
-    }
-    b'?'
+// The sectors of a part: how many, and how many bytes each has.
+#[derive(Clone, Copy)]
+pub(crate) struct Sectors {
+    pub(crate) count: u32,
+    pub(crate) bytes: u32,
 }
 
-// The number of an answer.
-fn number(done: chip::Done) -> u8 {
-    let answer = done.answer;
-    answer.number
-}
-
-// A sector erase at an address through both entries.
-fn erase(d: Device, a: &mut [u8], b: &mut [u8], at: u32) -> u8 {
-    let sent = [
-        0xD8,
-        (at / 65536 % 256) as u8,
-        (at / 256 % 256) as u8,
-        (at % 256) as u8,
-    ];
-    let mut r = [0; 4];
-    let mut s = [0; 4];
-    let x = chip::transact(d, a, &sent, 0, true, &mut r);
-    let y = chip::lent::transact_via(d, b, &sent, 0, true, &mut s);
-    letter(number(x), number(y))
+// Erases the sector of an address through both entries: a dot where both execute it, P where both give 17.
+fn letter(case: &mut Case<'_>, d: Device, at: u32) -> u8 {
+    let [_, high, middle, low] = at.to_be_bytes();
+    let sent = [0xD8, high, middle, low];
+    let x = &mut case.by_value;
+    let y = &mut case.lent;
+    let mut e = d;
+    let one = chip::transact(d, x.array, &sent, 0, true, x.response).answer;
+    let other = transact_lent(&mut e, y.array, &sent, 0, true, y.response);
+    match (one.number, other.number) {
+        (0, 0) => b'.',
+        (17, 17) => b'P',
+        _ => b'?',
+    }
 }
 
 // Prints the letter of each sector: that of its first byte, or a question mark where its last byte differs.
-fn row(
-    rt: &impl Print,
-    d: Device,
-    a: &mut [u8],
-    b: &mut [u8],
-    sectors: u32,
-    size: u32,
-) -> io::Result<()> {
-    let mut left = sectors;
-    let mut at = 0;
-    while left > 0 {
-        let next = std::num::wrapping_add_u32(at, size);
-        let x = erase(d, a, b, at);
-        let y = erase(d, a, b, std::num::wrapping_sub_u32(next, 1));
-        rt.write_all(&[slices::when(x == y, x, b'?')])?;
-        at = next;
-        left -= 1;
+fn row(rt: &impl Print, case: &mut Case<'_>, d: Device, sectors: Sectors) -> io::Result<()> {
+    for sector in 0..sectors.count {
+        let start = sector.wrapping_mul(sectors.bytes);
+        let end = start.wrapping_add(sectors.bytes);
+        let first = letter(case, d, start);
+        let last = letter(case, d, end.wrapping_sub(1));
+        rt.write_all(&[if first == last { first } else { b'?' }])?;
     }
     Ok(())
 }
 
-// One row: the BP, a colon and the letters.
-fn labelled(
-    rt: &impl Print,
-    d: Device,
-    bp: u8,
-    a: &mut [u8],
-    b: &mut [u8],
-    sectors: u32,
-    size: u32,
-) -> io::Result<()> {
-    show::print_number(rt, show::wide(bp))?;
-    rt.write_all(b":")?;
-    row(rt, steps::settings(d, false, bp, true), a, b, sectors, size)
-}
-
-// A row for each BP from 0 on.
-fn rows(
-    rt: &impl Print,
-    d: Device,
-    a: &mut [u8],
-    b: &mut [u8],
-    sectors: u32,
-    size: u32,
-    count: u8,
-) -> io::Result<()> {
-    let mut bp = 0;
-    let mut left = count;
-    while left > 0 {
-        labelled(rt, d, bp, a, b, sectors, size)?;
-        bp = std::num::wrapping_add_u8(bp, 1);
-        left -= 1;
-    }
-    Ok(())
-}
-
-// A part's rows on one line.
-pub(crate) fn table(
+// A part's rows on one line, one for each BP from 0 on: the BP, a colon and the letters.
+pub(crate) fn table<const BYTES: usize>(
     rt: &impl Print,
     name: &[u8],
     part: u32,
-    a: &mut [u8],
-    b: &mut [u8],
-    sectors: u32,
-    size: u32,
+    sectors: Sectors,
     count: u8,
-) -> io::Result<()> {
-    let t = steps::begin(rt, name, part, a, b)?;
-    let d = t.by_value;
-    rows(rt, d, a, b, sectors, size, count)?;
+) -> io::Result<()>
+    requires { BYTES < 2 ^ 63 }
+{
+    let mut a = [0; BYTES];
+    let mut b = [0; BYTES];
+    let mut r = [0; 4];
+    let mut s = [0; 4];
+    let mut case = Case::begin(
+        rt,
+        name,
+        part,
+        Entry::on(&mut a, &mut r),
+        Entry::on(&mut b, &mut s),
+    )?;
+    let d = case.by_value.device;
+    for bp in 0..count {
+        print!(rt; " {bp}:")?;
+        row(rt, &mut case, settings(d, false, bp, true), sectors)?;
+    }
     rt.write_all(b"\n")
 }

@@ -1,23 +1,14 @@
 // What the host side refuses: deliveries, and calls whose lengths a script cannot have.
-use crate::passing::{Passing, pass};
-use crate::steps;
+use crate::entries::{Case, Entry};
 use device::cycle::Cycle;
 use device::{Checked, Device};
 use std::io;
 
-// A delivery on an array of 33s.
-fn given(part: u32, a: &mut [u8], program: u32, write_status: u32) -> Checked {
-    slices::fill(a, 0x33);
-    chip::deliver(part, a, program, 5, 9, write_status)
-}
-
 // Prints a delivery's answer, whether the record is the all-zero one, and what became of the array.
 fn print_given(rt: &impl Print, name: &[u8], x: Checked, a: &[u8]) -> io::Result<()> {
-    let d = x.device;
-    let zero = Device::zero();
     rt.write_all(name)?;
-    show::print_number(rt, x.answer as u64)?;
-    show::print_choice(rt, steps::same_record(d, zero), b" zero", b" given")?;
+    print!(rt; " {}", x.answer)?;
+    show::print_choice(rt, x.device == Device::zero(), b" zero", b" given")?;
     show::print_choice(rt, show::all_are(a, 0, 0x33), b" kept", b" changed")?;
     show::print_choice(
         rt,
@@ -27,7 +18,7 @@ fn print_given(rt: &impl Print, name: &[u8], x: Checked, a: &[u8]) -> io::Result
     )
 }
 
-// One delivery.
+// A delivery on an array of 33s.
 fn delivery(
     rt: &impl Print,
     name: &[u8],
@@ -36,7 +27,8 @@ fn delivery(
     program: u32,
     write_status: u32,
 ) -> io::Result<()> {
-    let x = given(part, a, program, write_status);
+    slices::fill(a, 0x33);
+    let x = chip::deliver(part, a, program, 5, 9, write_status);
     print_given(rt, name, x, a)
 }
 
@@ -70,19 +62,16 @@ pub(crate) fn array_length(rt: &impl Print) -> io::Result<()> {
     let mut short_b = [0; 4095];
     let mut r = [0; 4];
     let mut s = [0; 4];
-    let t = steps::begin(rt, b"array-length", 0, &mut a, &mut b)?;
-    let t = steps::exchange(
+    let begun = Case::begin(
         rt,
-        t,
-        &mut short_a,
-        &mut short_b,
-        b"\x05\x00",
-        8,
-        true,
-        &mut r,
-        &mut s,
+        b"array-length",
+        0,
+        Entry::on(&mut a, &mut r),
+        Entry::on(&mut b, &mut s),
     )?;
-    steps::finish(rt, t)
+    let mut case = begun.with_arrays(&mut short_a, &mut short_b);
+    case.exchange(rt, b"\x05\x00", 8, true)?;
+    case.finish(rt)
 }
 
 // A response of three bytes: eight further pulses give 4, four bytes sent give 5, three are executed.
@@ -91,41 +80,17 @@ pub(crate) fn response_short(rt: &impl Print) -> io::Result<()> {
     let mut b = [0; 4096];
     let mut r = [0; 3];
     let mut s = [0; 3];
-    let t = steps::begin(rt, b"response-short", 0, &mut a, &mut b)?;
-    let t = steps::exchange(
+    let mut case = Case::begin(
         rt,
-        t,
-        &mut a,
-        &mut b,
-        b"\x05\x00\x00\x00",
-        8,
-        true,
-        &mut r,
-        &mut s,
-    )?;
-    let t = steps::exchange(
-        rt,
-        t,
-        &mut a,
-        &mut b,
-        b"\x05\x00\x00\x00",
+        b"response-short",
         0,
-        true,
-        &mut r,
-        &mut s,
+        Entry::on(&mut a, &mut r),
+        Entry::on(&mut b, &mut s),
     )?;
-    let t = steps::exchange(
-        rt,
-        t,
-        &mut a,
-        &mut b,
-        b"\x05\x00\x00",
-        0,
-        true,
-        &mut r,
-        &mut s,
-    )?;
-    steps::finish(rt, t)
+    case.exchange(rt, b"\x05\x00\x00\x00", 8, true)?;
+    case.exchange(rt, b"\x05\x00\x00\x00", 0, true)?;
+    case.exchange(rt, b"\x05\x00\x00", 0, true)?;
+    case.finish(rt)
 }
 
 // 65,537 bytes: 3, before the 4 of eight further pulses and the 5 of a short response.
@@ -135,30 +100,32 @@ pub(crate) fn too_many(rt: &impl Print) -> io::Result<()> {
     let mut b = [0; 4096];
     let mut r = [0; 1];
     let mut s = [0; 1];
-    let t = steps::begin(rt, b"n-65537", 0, &mut a, &mut b)?;
-    let t = steps::exchange(rt, t, &mut a, &mut b, &sent, 8, true, &mut r, &mut s)?;
-    steps::finish(rt, t)
+    let mut case = Case::begin(
+        rt,
+        b"n-65537",
+        0,
+        Entry::on(&mut a, &mut r),
+        Entry::on(&mut b, &mut s),
+    )?;
+    case.exchange(rt, &sent, 8, true)?;
+    case.finish(rt)
 }
 
 // A call of time or power that is refused: its answer, and whether record and array are as they were.
-fn print_refused(rt: &impl Print, name: &[u8], d: Device, x: Checked, a: &[u8]) -> io::Result<()> {
-    let after = x.device;
-    rt.write_all(name)?;
-    show::print_number(rt, x.answer as u64)?;
-    show::print_choice(rt, steps::same_record(d, after), b" same", b" changed")?;
-    show::print_choice(rt, show::all_are(a, 0, 0x33), b" kept\n", b" touched\n")
-}
-
-// A wait or a power-up.
-fn refused_pass(
+fn refused<F: Fn(Device, &mut [u8]) -> Checked>(
     rt: &impl Print,
     name: &[u8],
     d: Device,
     a: &mut [u8],
-    what: Passing,
-) -> io::Result<()> {
-    let x = pass(d, a, what);
-    print_refused(rt, name, d, x, a)
+    call: F,
+) -> io::Result<()>
+    requires { F.IsAlwaysCallable call }
+{
+    let x = call(d, a);
+    rt.write_all(name)?;
+    print!(rt; " {}", x.answer)?;
+    show::print_choice(rt, x.device == d, b" same", b" changed")?;
+    show::print_choice(rt, show::all_are(a, 0, 0x33), b" kept\n", b" touched\n")
 }
 
 // A power loss with such a mask.
@@ -169,14 +136,27 @@ fn refused_loss(
     a: &mut [u8],
     mask: &[u8],
 ) -> io::Result<()> {
-    let x = d.loss(a, mask, true);
-    print_refused(rt, name, d, x, a)
+    refused(
+        rt,
+        name,
+        d,
+        a,
+        |d: Device, a: &mut [u8]| d.loss(a, mask, true),
+    )
 }
 
 // One byte of the array too few: 2, of a loss before the 41 of a mask that is too short.
 fn short_array(rt: &impl Print, d: Device, a: &mut [u8]) -> io::Result<()> {
-    refused_pass(rt, b"wait-length", d, a, Passing::Wait(9))?;
-    refused_pass(rt, b"power-up-length", d, a, Passing::PowerUp)?;
+    refused(
+        rt,
+        b"wait-length",
+        d,
+        a,
+        |d: Device, a: &mut [u8]| d.wait(a, 9),
+    )?;
+    refused(rt, b"power-up-length", d, a, |d: Device, a: &mut [u8]| {
+        d.power_up(a)
+    })?;
     refused_loss(rt, b"loss-length", d, a, &[0; 255])
 }
 

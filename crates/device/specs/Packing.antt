@@ -1,7 +1,7 @@
 -- The packing of a record, and reading it back: 28 bytes of the record, then 8, the 256 slots and 4 of its cycle, then the lock registers.
-use Rattle.std.specs.Prelude.{◌≡◌, Bool, cond, ◌&&◌, List, [], ◌∷◌, ◌++◌, ℕ, eqb, leb, length, get_or, take, drop, Result, IfOk}
+use Rattle.std.specs.Prelude.{◌≡◌, Bool, cond, ◌&&◌, List, [], ◌∷◌, ◌++◌, ℕ, eqb, leb, length, get_or, take, drop, Result, Ok, Err}
 use Rattle.refusals.specs.declared.Refusal.{Refusal}
-use Rattle.refusals.specs.Numbers.{answer_of}
+use Rattle.refusals.specs.declared.Refusal.TheVariants.{NotSound}
 use Rattle.slices.specs.Bytes.{same_bytes, word, word_at}
 use Rattle.device.specs.declared.Mode.{Mode}
 use Rattle.device.specs.declared.Mode.TheVariants.{Standby, Busy, Deep}
@@ -63,9 +63,9 @@ kind_number Subsector = 7
 abbrev pub kind_of : ℕ → Kind
 kind_of number = cond (eqb number 1) Page (cond (eqb number 2) Sector (cond (eqb number 3) All (cond (eqb number 4) Settings (cond (eqb number 5) PageWrite (cond (eqb number 6) PageErase (cond (eqb number 7) Subsector Idle))))))
 
--- what a kind byte is read as: the kind whose byte it is; 6 where it is none's
-abbrev pub KindRead : ℕ → Result Kind Refusal → Type 0
-KindRead number read = IfOk read (λ kind. number ≡ kind_number kind) × (answer_of read ≡ cond (leb number 7) 0 6)
+-- the same where a byte that is no kind's is refused
+abbrev pub kind_read : ℕ → Result Kind Refusal
+kind_read number = cond (leb number 7) (Ok (kind_of number)) (Err NotSound)
 
 -- the first eight bytes: part, BP, SRWD, latch, mode, three zero bytes
 abbrev pub head_of : Device → List ℕ

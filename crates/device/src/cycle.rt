@@ -1,7 +1,7 @@
 // Cycles: what is remembered of one, what it does to the array, whole or cut, and how many ticks it takes.
 ghost use Rattle.std.specs.Prelude.{◌≡◌};
 ghost use Rattle.slices.specs.Changed.{map_at};
-ghost use Rattle.device.specs.Packing.{kind_number, KindRead};
+ghost use Rattle.device.specs.Packing.{kind_number, kind_read};
 ghost use Rattle.device.specs.Cycles.{uses_of, no_cycle, page_cycle, write_cycle, erase_cycle, all_cycle, settings_cycle, slots_sound, named_sound, cycle_sound, touched, cut, duration_of};
 
 use crate::Device;
@@ -34,7 +34,7 @@ impl From<Kind> for u8 {
 impl TryFrom<u8> for Kind {
     type Error = Refusal;
 
-    ghost try_from_gives = { KindRead };
+    ghost try_from_gives = { λ number read. read ≡ kind_read number };
 
     fn try_from(number: u8) -> Result<Kind, Refusal> {
         match number {

@@ -22,7 +22,7 @@ const NAMED: usize = 292;
 // Where the lock registers stand.
 const LOCKS: usize = 296;
 
-// The mode byte.
+// The mode byte. No conversion of a mode as a whole: its ticks stand elsewhere in a packing.
 fn mode_number(mode: Mode) -> u8
     ensures { result ≡ mode_number mode }
 {

@@ -1,15 +1,16 @@
 -- What the steps promise: the part that a call names; of salvage one block, its entry in the list, and the walk over all blocks.
-use Rattle.std.specs.Prelude.{◌≡◌, ℕ, ◌+◌, cond, List, [], length, ◌==◌, Result, Ok, Err}
+use Rattle.std.specs.Prelude.{◌≡◌, ℕ, ◌+◌, ◌*◌, cond, not, List, [], length, ◌==◌, Result, Ok, Err}
 use Rattle.refusals.specs.declared.Refusal.{Refusal}
-use Rattle.refusals.specs.declared.Refusal.TheVariants.{NoImage}
+use Rattle.refusals.specs.declared.Refusal.TheVariants.{NoImage, ImageLength}
 use Rattle.parts.specs.Parts.{known_part}
 use Rattle.slices.specs.Changed.{map_at, stored}
 use Rattle.image.specs.Blocks.{reason_of, salvaged_of}
+use Rattle.image.specs.Calls.{blocks_of}
 use Rattle.image.specs.Images.{mended, bad_places, entry_of, listed}
 
--- the part of a number
-abbrev pub part_named : ℕ → Result ℕ Refusal
-part_named part = cond (known_part part) (Ok part) (Err NoImage)
+-- the part that a call names, where the image has the length of its
+abbrev pub part_imaged : ℕ → ℕ → Result ℕ Refusal
+part_imaged part image = cond (not (known_part part)) (Err NoImage) (cond (not (image == blocks_of part * 512)) (Err ImageLength) (Ok part))
 
 -- one block: the reason, and the block
 pub record BlockSalvaged (place : ℕ) (b : List ℕ) (r : ℕ) (b' : List ℕ) : Type 0 where

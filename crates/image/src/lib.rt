@@ -10,7 +10,7 @@ ghost use Rattle.image.specs.Blocks.{filled_up, block_of, sums_in, reason_of};
 ghost use Rattle.image.specs.Faults.{number_of as fault_number, reason_in};
 ghost use Rattle.image.specs.Images.{imaged, unimaged, bad_places};
 ghost use Rattle.image.specs.Calls.{blocks_of, copy_number, salvage_number, reply, Written, Read, Salvaged};
-ghost use Rattle.image.specs.Steps.{part_named, BlockSalvaged, Noted, AllSalvaged};
+ghost use Rattle.image.specs.Steps.{part_imaged, BlockSalvaged, Noted, AllSalvaged};
 
 use parts::Figures;
 use refusals::Refusal;
@@ -194,16 +194,6 @@ fn salvage_all(image: &mut [u8], list: &mut [u8]) -> usize
     at
 }
 
-// The part of this number.
-fn part_named(part: u32) -> Result<u8, Refusal>
-    ensures { result ≡ part_named part }
-{
-    match u8::try_from(part) {
-        Ok(small) if parts::known(small) => Ok(small),
-        _ => Err(Refusal::NoImage),
-    }
-}
-
 // How many blocks a part's image has.
 #[tactic(auto, unfolding(crate::specs::Calls::blocks_of))]
 fn blocks_of(part: u8) -> usize
@@ -212,15 +202,27 @@ fn blocks_of(part: u8) -> usize
     Figures::of(part).bytes.div_ceil(504)
 }
 
-// Whether a writer's or a reader's call may look at blocks.
-#[tactic(auto, using(crate::proofs::Calls::blocks_few), unfolding(crate::specs::Calls::copy_number))]
-fn may_copy(part: u32, array: usize, image: usize) -> Result<(), Refusal>
-    ensures { answer_of result ≡ copy_number part array image }
+// The part of this number, where an image of so many bytes may be its.
+#[tactic(auto, using(crate::proofs::Calls::blocks_few))]
+fn part_imaged(part: u32, image: usize) -> Result<u8, Refusal>
+    ensures { result ≡ part_imaged part image }
 {
-    let part = part_named(part)?;
+    let part = match u8::try_from(part) {
+        Ok(part) if parts::known(part) => part,
+        _ => return Err(Refusal::NoImage),
+    };
     if image != blocks_of(part) * 512 {
         return Err(Refusal::ImageLength);
     }
+    Ok(part)
+}
+
+// Whether a writer's or a reader's call may look at blocks.
+#[tactic(auto, unfolding(crate::specs::Calls::copy_number))]
+fn may_copy(part: u32, array: usize, image: usize) -> Result<(), Refusal>
+    ensures { answer_of result ≡ copy_number part array image }
+{
+    let part = part_imaged(part, image)?;
     if array != Figures::of(part).bytes {
         return Err(Refusal::ArrayLength);
     }
@@ -228,15 +230,12 @@ fn may_copy(part: u32, array: usize, image: usize) -> Result<(), Refusal>
 }
 
 // Whether a salvage's call may look at blocks.
-#[tactic(auto, using(crate::proofs::Calls::blocks_few), unfolding(crate::specs::Calls::salvage_number))]
+#[tactic(auto, unfolding(crate::specs::Calls::salvage_number))]
 fn may_salvage(part: u32, image: usize, list: usize) -> Result<(), Refusal>
     ensures { answer_of result ≡ salvage_number part image list }
 {
-    let blocks = blocks_of(part_named(part)?);
-    if image != blocks * 512 {
-        return Err(Refusal::ImageLength);
-    }
-    if list / 8 < blocks {
+    let part = part_imaged(part, image)?;
+    if list / 8 < blocks_of(part) {
         return Err(Refusal::ListShort);
     }
     Ok(())

@@ -13,8 +13,8 @@ use lib.Seq.{take-suc}
 use Rattle.std.specs.List.{list_any}
 use Rattle.slices.proofs.Choices.{cond_ind, cond-case}
 use Rattle.pins.specs.declared.levels.Levels.{Levels}
-use Rattle.pins.specs.Pins.{levels_of, Pins, rest, on_select, on_clock, on_hold, next_pins, changes, takes, moves, Taking, anew, shifted, bit_taken, moved_on, clocked, next_taking, Seen, at_rest, step, seen_from, seen, too_long, odd_from, odd_samples}
-use Rattle.pins.specs.Counted.{pins_of, selected, held_after, bits_taken, next_count}
+use Rattle.pins.specs.Pins.{levels_of, Pins, rest, on_select, next_pins, changes, takes, moves, Taking, anew, shifted, bit_taken, moved_on, clocked, next_taking, Seen, at_rest, step, seen_from, seen, too_long, odd_from, odd_samples}
+use Rattle.pins.specs.Counted.{bits_taken, next_count}
 
 -- ---- one sample more
 
@@ -63,28 +63,6 @@ pub moves-takes : (p : Pins) (now : Levels) → moves p now ≡ true → takes p
 unfolding moves takes
 moves-takes p now h = exclusive (not p.select) (not p.holding) p.clock now.clock h
 
--- ---- the pins as the code holds them
-
--- the sample 25: Select, W and Hold high, the others low
-pub at-rest : pins_of (levels_of 25) false ≡ rest
-unfolding pins_of levels_of rest
-at-rest = refl
-
-pub select-is : (was : Levels) (holding : Bool) (now : Levels) {held : Bool} → held ≡ (on_select (pins_of was holding) now).holding → selected was now held ≡ on_select (pins_of was holding) now
-unfolding selected on_select pins_of
-select-is was holding now e = rw e
-
-pub pins-next : (was : Levels) (holding : Bool) (now : Levels) {held : Bool} → held ≡ (on_select (pins_of was holding) now).holding
-    → pins_of now (held_after now held) ≡ next_pins (pins_of was holding) now
-unfolding next_pins on_hold on_clock pins_of held_after on_select
-pins-next was holding now e = rw e (go was.clock now.clock (not was.hold) (not now.hold) (on_select (pins_of was holding) now).holding)
-  where
-    go : (a b x y h : Bool) → ◌≡◌ {A = Pins} (record { select = now.select; clock = b; hold = now.hold; holding = cond b h y })
-        (record { select = now.select; clock = b; hold = now.hold; holding = cond b (cond (a && not b) x h) y })
-    go true true x y h = refl
-    go false true x y h = refl
-    go a false x y h = refl
-
 -- ---- the bits taken
 
 -- each bit counts once
@@ -95,11 +73,6 @@ one-taken t bit =
     (λ e. let k = eqb-true t.pulses 7 e in omega (arith, length-append t.sent (shifted t.register bit ∷ [])))
     (λ e. omega arith)
 
--- a Select change does not ask whether there is a hold
-pub changes-any : (was : Levels) (holding held : Bool) (now : Levels) → changes (pins_of was holding) now ≡ changes (pins_of was held) now
-unfolding changes pins_of
-changes-any was holding held now = refl
-
 count-begun : (b : Bool) (t : Taking) → cond b 0 (bits_taken t) ≡ bits_taken (cond b anew t)
 unfolding anew
 count-begun true t = refl
@@ -109,10 +82,9 @@ count-moved : (t : Taking) → bits_taken t ≡ bits_taken (moved_on t)
 unfolding moved_on
 count-moved t = refl
 
-pub count_next : (was : Levels) (holding : Bool) (now : Levels) (t : Taking) {held : Bool} → held ≡ (on_select (pins_of was holding) now).holding
-    → next_count (bits_taken t) was now held ≡ bits_taken (next_taking (pins_of was holding) now t)
+pub count_next : (p : Pins) (now : Levels) (t : Taking) → next_count (bits_taken t) p now ≡ bits_taken (next_taking p now t)
 unfolding next_count next_taking clocked
-count_next was holding now t {held} e = rw (select-is was holding now e, changes-any was held holding now) (go (changes (pins_of was holding) now) (takes (on_select (pins_of was holding) now) now) (moves (on_select (pins_of was holding) now) now))
+count_next p now t = go (changes p now) (takes (on_select p now) now) (moves (on_select p now) now)
   where
     go : (a b m : Bool) → cond b (cond a 0 (bits_taken t) + 1) (cond a 0 (bits_taken t)) ≡ bits_taken (cond b (bit_taken (cond a anew t) now.«data») (cond m (moved_on (cond a anew t)) (cond a anew t)))
     go a true m = rw (count-begun a t) (sym (one-taken (cond a anew t) now.«data»))
@@ -186,19 +158,19 @@ unfolding odd_samples
 odd_any samples = sym (odd-or false samples)
 
 -- what the code holds after i samples while it looks for a transaction above 65,536 bytes
-pub record Counting (samples : List ℕ) (i : ℕ) (was : Levels) (holding : Bool) (n : ℕ) (l : Bool) : Type 0 where
-  pub pins : pins_of was holding ≡ (seen (take i samples)).pins
+pub record Counting (samples : List ℕ) (i : ℕ) (p : Pins) (n : ℕ) (l : Bool) : Type 0 where
+  pub pins : p ≡ (seen (take i samples)).pins
   pub count : n ≡ bits_taken (seen (take i samples)).taking
   pub long : l ≡ (seen (take i samples)).long
   pub few : n ≤ i
 
-pub counting-first : (samples : List ℕ) → Counting samples 0 (levels_of 25) false 0 false
+pub counting-first : (samples : List ℕ) → Counting samples 0 rest 0 false
 unfolding seen at_rest anew
-counting-first samples = record { pins = at-rest; count = refl; long = refl; few = lit≤ tt }
+counting-first samples = record { pins = refl; count = refl; long = refl; few = lit≤ tt }
 
-count-few : (n : ℕ) (was now : Levels) (held : Bool) → next_count n was now held ≤ n + 1
+count-few : (n : ℕ) (p : Pins) (now : Levels) → next_count n p now ≤ n + 1
 unfolding next_count
-count-few n was now held = go (takes (selected was now held) now) (changes (pins_of was held) now)
+count-few n p now = go (takes (on_select p now) now) (changes p now)
   where
     go : (a b : Bool) → cond a (cond b 0 n + 1) (cond b 0 n) ≤ n + 1
     go true true = omega arith
@@ -206,18 +178,16 @@ count-few n was now held = go (takes (selected was now held) now) (changes (pins
     go false true = omega arith
     go false false = omega arith
 
-pub counting-next : (samples : List ℕ) (i : ℕ) → i < length samples → {holding : Bool} {n : ℕ} {l : Bool} {was now : Levels} {held : Bool} {n' : ℕ} {holding' : Bool}
-    → now ≡ levels_of (get_or samples i 0) → held ≡ (on_select (pins_of was holding) now).holding → n' ≡ next_count n was now held → holding' ≡ held_after now held
-    → Counting samples i was holding n l → Counting samples (i + 1) now holding' n' (l || leb 524296 n')
+pub counting-next : (samples : List ℕ) (i : ℕ) → i < length samples → {p p' : Pins} {n : ℕ} {l : Bool} {now : Levels} {n' : ℕ}
+    → now ≡ levels_of (get_or samples i 0) → n' ≡ next_count n p now → p' ≡ next_pins p now → Counting samples i p n l → Counting samples (i + 1) p' n' (l || leb 524296 n')
 unfolding step
-counting-next samples i h {holding} {n} {l} {was} {now} {held} {n'} {holding'} en eh ec es k =
+counting-next samples i h {p} {p'} {n} {l} {now} {n'} en ec ep k =
     let x = seen (take i samples) in
-    let p : pins_of was holding ≡ x.pins = k.pins in
     let s : seen (take (i + 1) samples) ≡ step x now = seen_next samples i h ∙ ap (step x) (sym en) in
-    let c : n' ≡ bits_taken (next_taking x.pins now x.taking) = ec ∙ (rw (k.count, ← p) (count_next was holding now x.taking eh)) in
+    let c : n' ≡ bits_taken (next_taking x.pins now x.taking) = ec ∙ (rw (k.count, k.pins) (count_next x.pins now x.taking)) in
     record {
-      pins = rw (es, s, ← p) (pins-next was holding now eh);
+      pins = rw (s, ep, k.pins);
       count = rw s c;
       long = rw (s, c, k.long, long-bits (next_taking x.pins now x.taking) (few-next x.pins now x.taking (few-pulses (take i samples))));
-      few = omega (arith, count-few n was now held, k.few);
+      few = omega (arith, count-few n p now, k.few);
     }

@@ -1,30 +1,23 @@
--- A run as the code holds it: the levels before and a flag for the pins, numbers in place of the list of bytes, the byte that is driven and the bit that shows.
-use Rattle.std.specs.Prelude.{◌≡◌, Bool, Option, Some, None, cond, not, List, ℕ, ◌+◌, ◌-◌, ◌*◌, ◌/◌, ◌%◌, ◌^◌, eqb, length, take, set}
+-- A run as the code holds it: the pins, numbers in place of the list of bytes, the byte that is driven and the bit that shows.
+use Rattle.std.specs.Prelude.{◌≡◌, Bool, Option, Some, None, cond, List, ℕ, ◌+◌, ◌-◌, ◌*◌, ◌/◌, ◌%◌, ◌^◌, eqb, length, take, set}
 use Rattle.slices.specs.Changed.{map_at, window}
 use Rattle.device.specs.declared.Device.{Device}
 use Rattle.chip.specs.Line.{driven}
 use Rattle.chip.specs.Line.{line_byte}
 use Rattle.chip.specs.Outcome.{transacted}
 use Rattle.chip.specs.Events.{left}
+use Rattle.pins.specs.declared.levels.Kept.{Kept}
 use Rattle.pins.specs.declared.levels.Levels.{Levels}
 use Rattle.pins.specs.declared.underway.Underway.{Underway}
-use Rattle.pins.specs.Pins.{Pins, changes, takes, moves, ends, shifted, Shown, nothing, after, Taking}
+use Rattle.pins.specs.Pins.{Pins, on_select, changes, takes, moves, ends, shifted, Shown, nothing, after, Taking}
 use Rattle.pins.specs.declared.Tally.{Tally}
 use Rattle.pins.specs.Run.{Chip, chip_after, missed_in, output_at}
 
 -- ---- the pins
 
--- the levels of the sample before, and whether there is a hold
-unfoldable pub pins_of : Levels → Bool → Pins
-pins_of was holding = record { select = was.select; clock = was.clock; hold = was.hold; holding = holding }
-
--- with Select taken
-unfoldable pub selected : Levels → Levels → Bool → Pins
-selected was now held = record { select = now.select; clock = was.clock; hold = was.hold; holding = held }
-
--- whether there is a hold after clock and Hold
-unfoldable pub held_after : Levels → Bool → Bool
-held_after now held = cond now.clock held (not now.hold)
+-- those that the code keeps from sample to sample
+unfoldable pub pins_of : Kept → Pins
+pins_of k = record { select = k.select; clock = k.clock; hold = k.hold; holding = k.holding }
 
 -- ---- the bits taken
 
@@ -33,8 +26,8 @@ abbrev pub bits_taken : Taking → ℕ
 bits_taken t = 8 * length t.sent + t.pulses
 
 -- their number after one sample more
-unfoldable pub next_count : ℕ → Levels → Levels → Bool → ℕ
-next_count n was now held = cond (takes (selected was now held) now) (cond (changes (pins_of was held) now) 0 n + 1) (cond (changes (pins_of was held) now) 0 n)
+unfoldable pub next_count : ℕ → Pins → Levels → ℕ
+next_count n p now = cond (takes (on_select p now) now) (cond (changes p now) 0 n + 1) (cond (changes p now) 0 n)
 
 -- ---- the transaction under way
 

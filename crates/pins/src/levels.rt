@@ -1,9 +1,9 @@
 // The pins: their levels in a sample, and what happens from one sample to the next.
-#![tactic(auto, unfolding(crate::specs::Pins::levels_of, crate::specs::Pins::on_select, crate::specs::Pins::changes, crate::specs::Pins::takes, crate::specs::Pins::moves, crate::specs::Pins::ends, crate::specs::Counted::pins_of, crate::specs::Counted::selected, crate::specs::Counted::held_after))]
+#![tactic(auto, unfolding(crate::specs::Pins::levels_of, crate::specs::Pins::rest, crate::specs::Pins::on_select, crate::specs::Pins::on_clock, crate::specs::Pins::on_hold, crate::specs::Pins::changes, crate::specs::Pins::takes, crate::specs::Pins::moves, crate::specs::Pins::ends, crate::specs::Counted::pins_of))]
 
-ghost use Rattle.std.specs.Prelude.{◌≡◌, Bool};
-ghost use Rattle.pins.specs.Pins.{levels_of, on_select, changes, takes, moves, ends};
-ghost use Rattle.pins.specs.Counted.{pins_of, selected, held_after};
+ghost use Rattle.std.specs.Prelude.{◌≡◌};
+ghost use Rattle.pins.specs.Pins.{levels_of, rest, on_select, on_clock, on_hold, changes, takes, moves, ends};
+ghost use Rattle.pins.specs.Counted.{pins_of};
 
 // The five levels of a sample.
 #[derive(Clone, Copy, Debug, PartialEq, Eq)]
@@ -15,7 +15,6 @@ pub struct Levels {
     pub hold: bool,
 }
 
-// `self` are the levels in the sample before, `now` those in this one; `holding` is whether there is a hold, `held` the same with Chip Select taken.
 impl Levels {
     // Bit 0 Chip Select, 1 clock, 2 data in, 3 W, 4 Hold.
     pub(crate) fn of(sample: u8) -> Self
@@ -29,49 +28,86 @@ impl Levels {
             hold: sample / 16 % 2 == 1,
         }
     }
+}
+
+// What is kept of the pins from sample to sample: three levels, and whether there is a hold.
+#[derive(Clone, Copy, Debug, PartialEq, Eq)]
+pub struct Kept {
+    pub select: bool,
+    pub clock: bool,
+    pub hold: bool,
+    pub holding: bool,
+}
+
+// `now` are the levels in this sample.
+impl Kept {
+    // Before the first sample Chip Select and Hold are high, the clock low.
+    pub(crate) fn rest() -> Self
+        ensures { pins_of result ≡ rest }
+    {
+        Kept {
+            select: true,
+            clock: false,
+            hold: true,
+            holding: false,
+        }
+    }
 
     // Whether Chip Select changes.
     pub(crate) fn changes(self, now: Levels) -> bool
-        ensures { (holding : Bool) → result ≡ changes (pins_of self holding) now }
+        ensures { result ≡ changes (pins_of self) now }
     {
         self.select != now.select
     }
 
     // Whether Chip Select rises outside a hold.
-    pub(crate) fn ends(self, now: Levels, holding: bool) -> bool
-        ensures { result ≡ ends (pins_of self holding) now }
+    pub(crate) fn ends(self, now: Levels) -> bool
+        ensures { result ≡ ends (pins_of self) now }
     {
-        !self.select & now.select & !holding
+        !self.select & now.select & !self.holding
     }
 
-    // Whether there is a hold with Chip Select taken.
-    pub(crate) fn on_select(self, now: Levels, holding: bool) -> bool
-        ensures { result ≡ (on_select (pins_of self holding) now).holding }
+    // With Chip Select taken: as it falls, Hold low with the clock low is a hold at once.
+    pub(crate) fn on_select(self, now: Levels) -> Self
+        ensures { pins_of result ≡ on_select (pins_of self) now }
     {
         if self.select & !now.select {
-            return !self.hold & !self.clock;
+            return Kept {
+                select: now.select,
+                holding: !self.hold & !self.clock,
+                ..self
+            };
         }
-        holding
+        Kept {
+            select: now.select,
+            ..self
+        }
     }
 
     // Whether a bit is taken: the clock rises with Chip Select low and no hold.
-    pub(crate) fn takes(self, now: Levels, held: bool) -> bool
-        ensures { result ≡ takes (selected self now held) now }
+    pub(crate) fn takes(self, now: Levels) -> bool
+        ensures { result ≡ takes (pins_of self) now }
     {
-        !now.select & !held & (!self.clock & now.clock)
+        !self.select & !self.holding & (!self.clock & now.clock)
     }
 
     // Whether the output moves on: the clock falls with Chip Select low and no hold.
-    pub(crate) fn moves(self, now: Levels, held: bool) -> bool
-        ensures { result ≡ moves (selected self now held) now }
+    pub(crate) fn moves(self, now: Levels) -> bool
+        ensures { result ≡ moves (pins_of self) now }
     {
-        !now.select & !held & (self.clock & !now.clock)
+        !self.select & !self.holding & (self.clock & !now.clock)
     }
 
-    // Whether there is a hold after clock and Hold: with the clock low Hold says it, with the clock high a change waits.
-    pub(crate) fn on_hold(self, held: bool) -> bool
-        ensures { result ≡ held_after self held }
+    // With clock and Hold taken: with the clock low Hold says whether there is a hold, with the clock high a change waits.
+    pub(crate) fn on_hold(self, now: Levels) -> Self
+        ensures { pins_of result ≡ on_hold (on_clock (pins_of self) now) now }
     {
-        if self.clock { held } else { !self.hold }
+        let holding = if now.clock { self.holding } else { !now.hold };
+        Kept {
+            clock: now.clock,
+            hold: now.hold,
+            holding,
+            ..self
+        }
     }
 }

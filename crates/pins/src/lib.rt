@@ -13,13 +13,10 @@ mod underway;
 
 use chip::{Answer, Done};
 use device::Device;
-use levels::Levels;
+use levels::{Kept, Levels};
 use parts::Figures;
 use refusals::Refusal;
 use underway::Underway;
-
-// Before the first sample Chip Select, W and Hold are high, the others low.
-const REST: u8 = 25;
 
 // The bits of 65,537 whole bytes.
 const LONG: usize = 524_296;
@@ -31,14 +28,14 @@ fn odd_samples(samples: &[u8]) -> bool
     samples.iter().any(|sample| 32 <= *sample)
 }
 
-// The bits of the transaction under way, after a sample; `was` are the levels before it, `held` is the hold with Chip Select taken.
+// The bits of the transaction under way, after a sample; `pins` are those before it.
 #[tactic(auto, unfolding(crate::specs::Counted::next_count))]
-fn next_count(count: usize, was: Levels, levels: Levels, held: bool) -> usize
+fn next_count(count: usize, pins: Kept, levels: Levels) -> usize
     requires { count < 18446744073709551615 }
-    ensures { result ≡ next_count count was levels held }
+    ensures { result ≡ next_count count (pins_of pins) levels }
 {
-    let count = if was.changes(levels) { 0 } else { count };
-    if was.takes(levels, held) {
+    let count = if pins.changes(levels) { 0 } else { count };
+    if pins.on_select(levels).takes(levels) {
         return count + 1;
     }
     count
@@ -48,17 +45,14 @@ fn next_count(count: usize, was: Levels, levels: Levels, held: bool) -> usize
 fn too_long(samples: &[u8]) -> bool
     ensures { result ≡ too_long samples.now }
 {
-    let mut was = Levels::of(REST);
-    let mut holding = false;
+    let mut pins = Kept::rest();
     let mut count = 0;
     let mut long = false;
     for sample in samples {
         let levels = Levels::of(*sample);
-        let held = was.on_select(levels, holding);
-        count = next_count(count, was, levels, held);
+        count = next_count(count, pins, levels);
         long = long | (LONG <= count);
-        holding = levels.on_hold(held);
-        was = levels;
+        pins = pins.on_select(levels).on_hold(levels);
     }
     long
 }
@@ -93,22 +87,21 @@ struct Tally {
     missing: u32,
 }
 
-// Carries out the transaction under way, if it ends with this sample; `was` are the levels before it.
+// Carries out the transaction under way, if it ends with this sample; `pins` are those before it.
 #[tactic(auto, unfolding(crate::specs::Counted::ended_with, crate::specs::Counted::missed_with))]
 fn carry_out(
     device: Device,
     array: &mut [u8],
-    was: Levels,
+    pins: Kept,
     levels: Levels,
-    holding: bool,
     under: Underway,
     sent: &[u8],
     response: &mut [u8],
 ) -> Tally
     requires { under.whole ≤ length sent.now }
-    ensures { CarriedOut (ended_with (record { device = device; array = array.old }) (pins_of was holding) levels (take under.whole sent.now) under.pulses response.old) (missed_with (record { device = device; array = array.old }) (pins_of was holding) levels (take under.whole sent.now) under.pulses response.old) result array.new }
+    ensures { CarriedOut (ended_with (record { device = device; array = array.old }) (pins_of pins) levels (take under.whole sent.now) under.pulses response.old) (missed_with (record { device = device; array = array.old }) (pins_of pins) levels (take under.whole sent.now) under.pulses response.old) result array.new }
 {
-    if was.ends(levels, holding) {
+    if pins.ends(levels) {
         let n = under.whole;
         let done = chip::transact(device, array, &sent[..n], under.pulses, levels.w, response);
         let answer = done.answer;
@@ -135,22 +128,20 @@ fn carry_all(
 {
     let mut device = device;
     let mut missing = 0;
-    let mut was = Levels::of(REST);
-    let mut holding = false;
+    let mut pins = Kept::rest();
     let mut under = Underway::none();
     for (i, sample) in samples.iter().enumerate() {
         let levels = Levels::of(*sample);
-        if was.changes(levels) {
-            let done = carry_out(device, array, was, levels, holding, under, sent, response);
+        if pins.changes(levels) {
+            let done = carry_out(device, array, pins, levels, under, sent, response);
             device = done.device;
             missing += done.missing;
             under = Underway::none();
         }
-        let held = was.on_select(levels, holding);
-        under = under.clocked(device, array, sent, was, levels, held);
-        holding = levels.on_hold(held);
-        output[i] = under.output(levels, holding);
-        was = levels;
+        let selected = pins.on_select(levels);
+        under = under.clocked(device, array, sent, selected, levels);
+        pins = selected.on_hold(levels);
+        output[i] = under.output(pins);
     }
     Tally { device, missing }
 }

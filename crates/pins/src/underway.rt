@@ -3,9 +3,9 @@
 
 ghost use Rattle.std.specs.Prelude.{◌≡◌, true, cond, ◌||◌, ◌<◌, length};
 ghost use Rattle.pins.specs.Pins.{shifted, takes};
-ghost use Rattle.pins.specs.Counted.{selected, none_yet, bit_now, level, shown_on, Taken, Clocked};
+ghost use Rattle.pins.specs.Counted.{pins_of, none_yet, bit_now, level, shown_on, Taken, Clocked};
 
-use crate::levels::Levels;
+use crate::levels::{Kept, Levels};
 use device::Device;
 
 // Whole bytes, further pulses and the register that the data is shifted into; the byte that is driven after the whole bytes, if one is; the bit that shows since the last fall of the clock, if one does.
@@ -88,33 +88,32 @@ impl Underway {
         }
     }
 
-    // The clock, with Chip Select taken: `was` are the levels before this sample.
+    // The clock, with Chip Select taken in `pins`.
     pub(crate) fn clocked(
         self,
         device: Device,
         array: &[u8],
         sent: &mut [u8],
-        was: Levels,
+        pins: Kept,
         levels: Levels,
-        held: bool,
     ) -> Self
-        requires { (self.pulses < 8) × (takes (selected was levels held) levels ≡ true → self.pulses ≡ 7 → self.whole < length sent.old) }
-        ensures { Clocked self device array.now sent.old (selected was levels held) levels result sent.new }
+        requires { (self.pulses < 8) × (takes (pins_of pins) levels ≡ true → self.pulses ≡ 7 → self.whole < length sent.old) }
+        ensures { Clocked self device array.now sent.old (pins_of pins) levels result sent.new }
     {
-        if was.takes(levels, held) {
+        if pins.takes(levels) {
             return self.bit_taken(device, array, sent, levels.data);
         }
-        if was.moves(levels, held) {
+        if pins.moves(levels) {
             return self.moved_on();
         }
         self
     }
 
     // The output after a sample: the bit that shows, and none in a hold or with Chip Select high.
-    pub(crate) fn output(self, levels: Levels, holding: bool) -> u8
-        ensures { result ≡ cond (levels.select || holding) 2 (level self.bit) }
+    pub(crate) fn output(self, pins: Kept) -> u8
+        ensures { result ≡ cond (pins.select || pins.holding) 2 (level self.bit) }
     {
-        if levels.select || holding {
+        if pins.select || pins.holding {
             return NOTHING;
         }
         match self.bit {

@@ -31,7 +31,7 @@ const PROGRAMS: usize = 289;
 const PROGRAM: u8 = 2;
 
 // Number `i` becomes more by `n`.
-fn raise(counts: &mut [u64], i: usize, n: u64)
+fn raise(counts: &mut [u64; TOTALS], i: usize, n: u64)
     requires { (i < length counts.old) × (get_or counts.old i 0 + n ≤ largest) }
     ensures { Raised i n counts.old counts.new }
 {
@@ -39,7 +39,7 @@ fn raise(counts: &mut [u64], i: usize, n: u64)
 }
 
 // Counts one transaction.
-fn count(counts: &mut [u64], part: u8, sent: &[u8], answer: Answer)
+fn count(counts: &mut [u64; TOTALS], part: u8, sent: &[u8], answer: Answer)
     requires { Spare counts.old (3 + answer.count) × (answer.number < 32) }
     ensures { Grown (figures_of part) (record { sent = sent.now; answer = answer } ∷ []) counts.old counts.new }
 {
@@ -55,7 +55,13 @@ fn count(counts: &mut [u64], part: u8, sent: &[u8], answer: Answer)
 }
 
 // One item foreseen and counted: the record that it would leave.
-fn foresee_one(device: Device, array: usize, part: u8, item: &[u8], counts: &mut [u64]) -> Device
+fn foresee_one(
+    device: Device,
+    array: usize,
+    part: u8,
+    item: &[u8],
+    counts: &mut [u64; TOTALS],
+) -> Device
     requires { (good_item item.now ≡ true) × (sound device ≡ true) × (array ≡ (figures_of device.part).bytes) × Spare counts.old (length item.now) }
     ensures { Seen (event_in item.now) device array part counts.old result counts.new }
 {
@@ -87,8 +93,7 @@ fn foresee_all(device: Device, array: usize, items: &[u8]) -> [u64; TOTALS]
 }
 
 // Whether some sum is more than 64 bits hold.
-fn exceeding(counts: &[u64], held: &[u8]) -> bool
-    requires { length counts.now ≡ totals }
+fn exceeding(counts: &[u64; TOTALS], held: &[u8]) -> bool
     ensures { result ≡ exceeds (λ i. get_or counts.now i 0) held.now }
 {
     for (i, n) in counts.iter().enumerate() {
@@ -100,8 +105,8 @@ fn exceeding(counts: &[u64], held: &[u8]) -> bool
 }
 
 // Adds to each total.
-fn add_all(counts: &[u64], held: &mut [u8])
-    requires { (length counts.now ≡ totals) × (exceeds (λ i. get_or counts.now i 0) held.old ≡ false) }
+fn add_all(counts: &[u64; TOTALS], held: &mut [u8])
+    requires { exceeds (λ i. get_or counts.now i 0) held.old ≡ false }
     ensures { held.new ≡ added (λ i. get_or counts.now i 0) held.old }
 {
     for (i, n) in counts.iter().enumerate() {

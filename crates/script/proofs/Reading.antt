@@ -1,14 +1,13 @@
 -- Laws of the lines that are read.
 -- Assumes nothing.
 use mathlib.Core.Path.{◌≡◌, refl, sym, ap, ◌∙◌}
-use mathlib.Core.Bool.{Bool, true, false, cond, ◌&&◌, ◌||◌, and-false, and-true}
+use mathlib.Core.Bool.{Bool, true, false, cond, ◌&&◌, ◌||◌, and-false}
 use mathlib.Core.List.{List, [], ◌∷◌, ◌++◌}
 use Prim.Native.Nat.{ℕ, zero, suc, ◌+◌, ◌-◌, ◌*◌, ◌/◌, ◌%◌, ◌<◌, ◌≤◌}
 use native.Mathlib.Numerals.{add-one}
 use native.Mathlib.Omega.{arith}
 use borrow.Author.Tests.{ltb-true, ltb-false, eqb-true, eqb-false, le-leb, lt-leb, lt-ltb, le-ltb}
 use lib.Dec.{eqb, leb, ltb}
-use lib.Pointwise.{pointwise}
 use lib.ListN.{length, get_or, take, drop, drop_of_length-le, length-drop, length-append, get_or-append}
 use lib.Seq.{drop-cons, get_or-take, get_or-drop, get_or-append-add, length-take-le}
 use Rattle.std.proofs.Common.{Some, None, not}
@@ -19,12 +18,9 @@ use Rattle.script.specs.Lines.{digit_of, all_below, number_from, number_of, pair
 use Rattle.script.specs.Steps.{number_in, ticks_in}
 use Rattle.script.specs.declared.Command.{Command}
 
--- a number in a range, one below it and one above it
+-- a number in a range, and one above it
 pub between_in : (a b x : ℕ) → a ≤ x → x ≤ b → leb a x && leb x b ≡ true
 between_in a b x h g = rw (le-leb a x h, le-leb x b g)
-
-pub between-below : (a b x : ℕ) → x < a → leb a x && leb x b ≡ false
-between-below a b x h = rw (lt-leb a x h)
 
 pub between-above : (a b x : ℕ) → b < x → leb a x && leb x b ≡ false
 between-above a b x h = rw (lt-leb x b h) (and-false (leb a x))
@@ -67,12 +63,6 @@ is_one xs v h e lt = go (eqb (length xs) 0) refl (all_below 10 xs) refl
     go false p true q =
         let k : 0 < length xs = let n = eqb-false (length xs) 0 p in omega (arith, n) in
         rw (lt-ltb 0 (length xs) k, q, ← e, lt-ltb v 4294967296 lt)
-
--- a line that begins as one that waits
-pub begins : (line : List ℕ) → pointwise eqb (take 2 line) (119 ∷ 32 ∷ []) ≡ eqb (get_or line 0 0) 119 && eqb (get_or line 1 0) 32
-begins [] = refl
-begins (x ∷ []) = refl
-begins (x ∷ y ∷ line) = rw and-true
 
 -- a line that waits, and one that does not
 pub waits : (line : List ℕ) (t : ℕ) → Some t ≡ ticks_in line → (is_wait line ≡ true) × (t ≡ number_of (drop 2 line))

@@ -1,7 +1,7 @@
 // The bench's line language: what a line asks, and the lines that answer it.
 #![tactic(auto)]
 
-ghost use Rattle.std.specs.Prelude.{◌≡◌, true, [], ◌∷◌, ◌<◌, get_or, drop};
+ghost use Rattle.std.specs.Prelude.{◌≡◌, true, false, [], ◌∷◌, ◌<◌, ◌==◌, get_or, drop, slice_index, MatchOption};
 ghost use Rattle.slices.specs.Changed.{map_at};
 ghost use Rattle.script.specs.Lines.{digit_of, all_below, is_hex, is_exchange, is_power_up, pairs, Parsed};
 ghost use Rattle.script.specs.Answers.{decimal, hex_digit, hex_byte, hex_text, hex_or_dash, answer_line, end_line, Printed};
@@ -38,13 +38,6 @@ fn all_below(base: u8, text: &[u8]) -> bool
     text.iter().all(|x| digit(*x) < base)
 }
 
-// What comes after the first `n` characters.
-fn after(text: &[u8], n: usize) -> &[u8]
-    ensures { result.now ≡ drop n text.now }
-{
-    text.get(n..).unwrap_or(b"")
-}
-
 // Whether a field is hexadecimal pairs, one at least.
 #[tactic(auto, unfolding(crate::specs::Lines::is_hex))]
 fn is_hex(text: &[u8]) -> bool
@@ -67,27 +60,34 @@ fn number(text: &[u8]) -> Option<u32>
     Some(v)
 }
 
-// Whether a line has the form `x W bits hex` or `x W bits`.
-#[tactic(auto, unfolding(crate::specs::Lines::is_exchange))]
-fn is_exchange(line: &[u8]) -> bool
-    ensures { result ≡ is_exchange line.now }
+// W, the further pulses and the pairs of a line that has the form `x W bits hex` or `x W bits`.
+#[tactic(auto, unfolding(crate::specs::Lines::is_exchange, crate::specs::Lines::is_hex))]
+fn exchange(line: &[u8]) -> Option<(bool, u8, &[u8])>
+    ensures { MatchOption result (is_exchange line.now ≡ false) (λ e. (is_exchange line.now ≡ true) × (e.0 ≡ (slice_index line.now 2 == 49)) × (e.1 ≡ digit_of (slice_index line.now 4)) × (e.2.now ≡ drop 6 line.now)) }
 {
-    let w = digit(byte_at(line, 2));
-    let pulses = digit(byte_at(line, 4));
-    let hex = (byte_at(line, 5) == b' ') & is_hex(after(line, 6));
-    (byte_at(line, 0) == b'x')
-        & (byte_at(line, 1) == b' ')
-        & (w < 2)
-        & (byte_at(line, 3) == b' ')
-        & (pulses < 8)
-        & ((line.len() == 5) | hex)
+    let [b'x', b' ', w, b' ', bits, rest @ ..] = line else {
+        return None;
+    };
+    let hex = match rest {
+        [] => rest,
+        [b' ', hex @ ..] if is_hex(hex) => hex,
+        _ => return None,
+    };
+    if (digit(*w) < 2) & (digit(*bits) < 8) {
+        return Some((*w == b'1', digit(*bits), hex));
+    }
+    None
 }
 
 // The ticks of a line that has the form `w t`.
+#[tactic(auto, unfolding(crate::specs::Lines::is_wait))]
 fn ticks(line: &[u8]) -> Option<u32>
     ensures { result ≡ ticks_in line.now }
 {
-    number(line.strip_prefix(b"w ")?)
+    match line {
+        [b'w', b' ', text @ ..] => number(text),
+        _ => None,
+    }
 }
 
 // Whether a line is `p`.
@@ -104,6 +104,7 @@ fn store(text: &[u8], out: &mut [u8])
     ensures { out.new ≡ map_at (get_or (pairs text.now)) out.old }
 {
     let n = (text.len() / 2).min(out.len());
+    // by the index of the pair: tried, a `zip` with `out.iter_mut()` leaves nothing known of `out`
     for (i, byte) in out[..n].iter_mut().enumerate() {
         *byte = 16 * digit(text[2 * i]) + digit(text[2 * i + 1]);
     }
@@ -116,13 +117,13 @@ pub fn parse(line: &[u8], sent: &mut [u8]) -> Command
     if 600 < line.len() {
         return Command::Malformed;
     }
-    if is_exchange(line) {
-        let w = byte_at(line, 2) == b'1';
-        let pulses = digit(byte_at(line, 4));
-        let hex = after(line, 6);
-        let n = hex.len() / 2;
+    if let Some((w, pulses, hex)) = exchange(line) {
         store(hex, sent);
-        return Command::Exchange { w, pulses, n };
+        return Command::Exchange {
+            w,
+            pulses,
+            n: hex.len() / 2,
+        };
     }
     if let Some(t) = ticks(line) {
         return Command::Wait(t);

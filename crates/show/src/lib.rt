@@ -1,16 +1,7 @@
-// What the programs of the gate print: bytes, numbers, and one of two texts; and whether bytes are all the same, or the same as others.
+// What the programs of the gate print: bytes, and one of two texts; and whether bytes are all the same.
 #![tactic(auto)]
 
-ghost use Rattle.std.specs.Prelude.{◌≡◌, true};
-
 use std::io;
-
-// A byte as a number to print.
-pub fn wide(x: u8) -> u64
-    ensures { result ≡ x }
-{
-    x as u64
-}
 
 // Prints bytes in hexadecimal.
 pub fn print_bytes(rt: &impl Print, s: &[u8]) -> io::Result<()> {
@@ -25,20 +16,7 @@ pub fn all_are(s: &[u8], from: usize, v: u8) -> bool {
     s.iter().skip(from).all(|x| *x == v)
 }
 
-// Whether two runs of bytes are the same.
-pub fn same(a: &[u8], b: &[u8]) -> bool
-    ensures yes { result ≡ true → a.now ≡ b.now }
-    ensures no { a.now ≡ b.now → result ≡ true }
-{
-    a == b
-}
-
 // Prints the first text where a test holds, else the second.
 pub fn print_choice(rt: &impl Print, test: bool, yes: &[u8], no: &[u8]) -> io::Result<()> {
     rt.write_all(if test { yes } else { no })
-}
-
-// Prints a space and a decimal number.
-pub fn print_number(rt: &impl Print, n: u64) -> io::Result<()> {
-    print!(rt; " {n}")
 }

@@ -1,36 +1,15 @@
 // Total functions on slices and numbers. Nothing of flash.
 #![tactic(auto)]
 
-ghost use Rattle.std.specs.Prelude.{◌≡◌, cond, ◌+◌, ◌*◌, ◌%◌, min, get_or, take, drop, replicate};
+ghost use Rattle.std.specs.Prelude.{◌≡◌, ◌+◌, ◌%◌, get_or, take, drop, replicate};
 ghost use Rattle.slices.specs.Changed.{map_at, window, put, stored};
-ghost use Rattle.slices.specs.Bytes.{same_bytes, word, long, word_at, long_at};
-
-// The smaller number.
-pub fn least(a: usize, b: usize) -> usize
-    ensures { result ≡ min a b }
-{
-    a.min(b)
-}
+ghost use Rattle.slices.specs.Bytes.{word_at, long_at};
 
 // The remainder; by 0 it is the number itself.
 pub fn rest(a: usize, b: usize) -> usize
     ensures { result ≡ a % b }
 {
     a.checked_rem(b).unwrap_or(a)
-}
-
-// The first number where a test holds, else the second: a cascade of rules is a run of these, with no branch.
-pub fn when(test: bool, a: u8, b: u8) -> u8
-    ensures { result ≡ cond test a b }
-{
-    if test { a } else { b }
-}
-
-// The little-endian number of four bytes.
-pub fn word(a: u8, b: u8, c: u8, d: u8) -> u32
-    ensures { result ≡ a + 256 * b + 65536 * c + 16777216 * d }
-{
-    u32::from_le_bytes([a, b, c, d])
 }
 
 // Byte `i`, and 0 past the end.
@@ -79,13 +58,6 @@ pub fn long_at(s: &[u8], at: usize) -> u64
     u64::from_le_bytes(bytes)
 }
 
-// Whether two slices hold the same bytes.
-pub fn same(a: &[u8], b: &[u8]) -> bool
-    ensures { result ≡ same_bytes a.now b.now }
-{
-    a == b
-}
-
 // Every byte becomes `v`.
 pub fn fill(s: &mut [u8], v: u8)
     ensures { s.new ≡ map_at (put v) s.old }
@@ -116,18 +88,4 @@ pub fn store(out: &mut [u8], at: usize, src: &[u8])
 {
     let start = at.min(out.len());
     copy(&mut out[start..], src);
-}
-
-// The bytes from `at` on become a number's four, as far as there are any.
-pub fn store_word(out: &mut [u8], at: usize, n: u32)
-    ensures { out.new ≡ map_at (stored at (word n)) out.old }
-{
-    store(out, at, &n.to_le_bytes());
-}
-
-// The bytes from `at` on become a number's eight, as far as there are any.
-pub fn store_long(out: &mut [u8], at: usize, n: u64)
-    ensures { out.new ≡ map_at (stored at (long n)) out.old }
-{
-    store(out, at, &n.to_le_bytes());
 }

@@ -5,7 +5,7 @@ use Rattle.pins.proofs.carry_all.Goals as goal
 use Rattle.pins.proofs.carry_all.Goals.{then-changes, else-changes}
 
 pub loop-i-init : goal.loop-i-init
-loop-i-init c = rw (c.of-was.ensures, c.none-under.ensures) (held_first _ _ _ _ _)
+loop-i-init c = rw (c.rest-pins.ensures, c.none-under.ensures) (held_first _ _ _ _ _)
 
 pub carry_out-done-requires : goal.carry_out-done-requires
 carry_out-done-requires c = omega (arith, whole-few c.loop-i.invariant c.requires.0, c.loop-i.auto.sent, c.requires.2)
@@ -25,10 +25,10 @@ clocked-under-requires c =
     let response : 65536 ≤ length l.response = omega (arith, l.auto.response, c.requires.3) in
     let b : Begun c.args.device c.args.array.now c.args.samples.now l.i c.of-levels.result c.if-changes.array c.if-changes.device c.if-changes.missing c.if-changes.under
     = elim c.if-changes.branch [
-      | then-changes w ↦ rw (w.array-is, w.device-is, w.missing-is, w.under-is) (begun-anew _ _ _ _ l.i lt c.requires.0 l.invariant en l.response response (sym (c.changes.ensures l.holding) ∙ w.if-changes.true) w.carry_out-done.ensures w.none-under-then-changes.ensures)
-      | else-changes w ↦ rw (w.array-is, w.device-is, w.missing-is, w.under-is) (begun-same _ _ _ _ l.i lt c.requires.0 l.invariant en (sym (c.changes.ensures l.holding) ∙ w.if-changes.false))
+      | then-changes w ↦ rw (w.array-is, w.device-is, w.missing-is, w.under-is) (begun-anew _ _ _ _ l.i lt c.requires.0 l.invariant en l.response response (sym c.changes.ensures ∙ w.if-changes.true) w.carry_out-done.ensures w.none-under-then-changes.ensures)
+      | else-changes w ↦ rw (w.array-is, w.device-is, w.missing-is, w.under-is) (begun-same _ _ _ _ l.i lt c.requires.0 l.invariant en (sym c.changes.ensures ∙ w.if-changes.false))
     ] in
-    let eh = c.on_select-held.ensures in
+    let eh = c.on_select-selected.ensures in
     (begun-few _ _ _ _ l.i lt c.requires.0 l.invariant en b eh, begun-room _ _ _ _ l.i lt c.requires.0 l.invariant en b eh sent)
 
 pub loop-i-preserved : goal.loop-i-preserved
@@ -40,10 +40,10 @@ loop-i-preserved c =
     let response : 65536 ≤ length l.response = omega (arith, l.auto.response, c.requires.3) in
     let b : Begun c.args.device c.args.array.now c.args.samples.now l.i c.of-levels.result c.if-changes.array c.if-changes.device c.if-changes.missing c.if-changes.under
     = elim c.if-changes.branch [
-      | then-changes w ↦ rw (w.array-is, w.device-is, w.missing-is, w.under-is) (begun-anew _ _ _ _ l.i lt c.requires.0 l.invariant en l.response response (sym (c.changes.ensures l.holding) ∙ w.if-changes.true) w.carry_out-done.ensures w.none-under-then-changes.ensures)
-      | else-changes w ↦ rw (w.array-is, w.device-is, w.missing-is, w.under-is) (begun-same _ _ _ _ l.i lt c.requires.0 l.invariant en (sym (c.changes.ensures l.holding) ∙ w.if-changes.false))
+      | then-changes w ↦ rw (w.array-is, w.device-is, w.missing-is, w.under-is) (begun-anew _ _ _ _ l.i lt c.requires.0 l.invariant en l.response response (sym c.changes.ensures ∙ w.if-changes.true) w.carry_out-done.ensures w.none-under-then-changes.ensures)
+      | else-changes w ↦ rw (w.array-is, w.device-is, w.missing-is, w.under-is) (begun-same _ _ _ _ l.i lt c.requires.0 l.invariant en (sym c.changes.ensures ∙ w.if-changes.false))
     ] in
-    held_next _ _ _ _ l.i lt c.requires.0 l.invariant en b c.on_select-held.ensures l.auto.output c.requires.1 sent c.clocked-under.ensures c.on_hold-holding.ensures c.output.ensures
+    held_next _ _ _ _ l.i lt c.requires.0 l.invariant en b c.on_select-selected.ensures _ l.auto.output c.requires.1 sent c.clocked-under.ensures c.on_hold-pins.ensures c.output.ensures
 
 pub returns : goal.returns
 returns c = held-last c.loop-i.invariant (omega arith)

@@ -12,7 +12,7 @@ overflow_add-sum c =
     let l = c.loop-i in
     let more : ℕ → ℕ = λ k. get_or c.args.counts.now k 0 in
     let was = c.long_at.ensures ∙ (ap (λ (h : List ℕ). total_in h l.i) l.invariant ∙ total_kept more c.args.held.now l.i) in
-    record { fits = omega (arith, was, none-exceeds more c.args.held.now c.requires.1 l.i (omega arith)) }
+    record { fits = omega (arith, was, none-exceeds more c.args.held.now c.requires l.i (omega arith)) }
 
 pub loop-i-preserved : goal.loop-i-preserved
 loop-i-preserved c =

@@ -15,7 +15,7 @@ add_all-requires c =
     let a = c.args in
     let n = sym c.in-Ok.ensures.number in
     let z = number-none a.device a.array.now a.items.now a.responses.now a.answers.now a.totals.now n in
-    (c.in-Ok.ensures.sums.long, sums-fit a.device a.array.now a.items.now a.responses.now a.answers.now a.totals.now z c.in-Ok.ensures.sums n)
+    sums-fit a.device a.array.now a.items.now a.responses.now a.answers.now a.totals.now z c.in-Ok.ensures.sums n
 
 pub returns : goal.returns
 returns c =

@@ -1,5 +1,0 @@
--- `rows` ends: the rows left fall.
-use Rattle.chip_run.proofs.protected.rows.Given as goal
-
-abbrev pub decreases-loop-left : goal.decreases-loop-left
-decreases-loop-left g l = l.left
