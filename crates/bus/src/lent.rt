@@ -62,6 +62,7 @@ fn wait_all(row: &mut [Device], array: &mut [u8], ticks: u32)
 }
 
 // Every chip of a lent row waits `ticks`: their records are replaced.
+// The answer by its number: `bus_waited`, of which the theorems speak, gives it so.
 pub fn wait_lent(row: &mut [Device], array: &mut [u8], ticks: u32) -> u8
     ensures { AllWaited (bus_waited row.old array.old ticks) result row.new array.new }
 {

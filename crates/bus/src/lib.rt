@@ -28,6 +28,7 @@ pub struct Turned {
 }
 
 // A wait's answer, and the row as it is then.
+// The number as it is: `bus_waited`, of which the theorems speak, gives it so.
 #[derive(Clone, Copy)]
 pub struct Passed {
     pub answer: u8,
@@ -94,6 +95,7 @@ fn accepts_turn(row: &[Device], chip: usize, array: usize) -> Result<(), Refusal
 }
 
 // One transaction with one chip of a row that is the first n places; the others do nothing.
+// The nine places with n beside them: `Turns` and `Passes` promise of such a row. `lent` takes a slice.
 pub fn transact(
     mut row: [Device; PLACES],
     n: usize,

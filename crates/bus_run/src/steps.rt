@@ -72,6 +72,7 @@ impl<const N: usize> Bus<N> {
     // One step on a lent row.
     fn lent(&mut self, step: Step, sent: &[u8]) -> Told {
         let mut line = [0x55; LINE];
+        // tried: a part of the field lent on, which the check does not cover yet
         let mut row = self.row;
         let chips = &mut row[..step.chips.min(PLACES)];
         let bytes = &mut self.array;

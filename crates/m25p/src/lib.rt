@@ -45,6 +45,7 @@ fn bare(number: u8) -> u64
 fn opened(packed: &[u8]) -> Result<Device, u64>
     ensures { MatchResult result (λ d. ((unpack_of packed.now).answer ≡ 0) × (d ≡ (unpack_of packed.now).device)) (λ r. ((unpack_of packed.now).answer ≢ 0) × (r ≡ packed_answer (Outcome.bare (unpack_of packed.now).answer))) }
 {
+    // by its number: `unpack_of`, of which the theorems speak, gives it so
     let came = unpack(packed);
     if came.answer == 0 {
         Ok(came.device)
