@@ -165,7 +165,7 @@ fn first_bad(image: &[u8]) -> Option<usize>
     None
 }
 
-// Notes a bad block at byte `at` of the list, its number and the reason; the next free byte.
+// Notes a bad block at byte `at` of the list, its number and the reason; the next free byte. The place goes in and out by itself, as `Noted` has it.
 fn note(list: &mut [u8], at: usize, place: usize, found: Result<(), Fault>) -> usize
     requires { at + 8 ≤ length list.old }
     ensures { Noted list.old at place (reason_in found) result list.new }

@@ -141,6 +141,7 @@ struct Text<'a> {
     at: usize,
 }
 
+// Each method says by `same` that the buffer is still the caller's: what the caller's buffer holds at last is known by it.
 impl<'a> Text<'a> {
     // One character, where there is room.
     #[tactic(auto, using(crate::proofs::Printing::printed_here, crate::proofs::Printing::printed_nowhere))]
@@ -222,6 +223,7 @@ fn hex_digit(n: u8) -> u8
 }
 
 // The line that answers line `number`, from place `at` of `text` on, as far as there is room: the place past it.
+// Buffer and place stand by themselves here, as they did for its callers.
 pub fn print_answer(number: u64, answer: u8, bytes: &[u8], text: &mut [u8], at: usize) -> usize
     ensures { Printed (answer_line number answer bytes.now) text.old at text.new result }
 {
