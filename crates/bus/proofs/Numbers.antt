@@ -9,8 +9,6 @@ use borrow.Author.Tests.{ltb-false, leb-false, eqb-true, eqb-false, not-false, l
 use lib.Dec.{eqb, leb, ltb}
 use lib.ListN.{length}
 use Rattle.slices.proofs.Choices.{past}
-use Rattle.refusals.specs.declared.Refusal.{Refusal}
-use Rattle.refusals.specs.Numbers.{number_of}
 use Rattle.device.specs.declared.Device.{Device}
 use Rattle.bus.specs.Bus.{sum_of, all_sound}
 use Rattle.bus.specs.Calls.{out_of_range, whole_number, wait_number, bus_number}
@@ -79,7 +77,3 @@ zero-wait row array h = rw (in-range (length row) h.some h.few) (zero-whole row 
 pub zero-bus : (row : List Device) (array k : ℕ) → Whole row array → k < length row → bus_number row array k ≡ 0
 unfolding bus_number
 zero-bus row array k h l = rw (in-range (length row) h.some h.few, lt-leb (length row) k l) (zero-whole row array h)
-
--- no refusal has the number 0
-pub refused-some : (r : Refusal) → number_of r ≡ 0 → ⊥
-refused-some r e = grind arith

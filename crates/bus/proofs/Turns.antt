@@ -17,7 +17,8 @@ use Rattle.chip.specs.Events.{left}
 use Rattle.bus.specs.Bus.{bytes_of, sum_of, chips_in, row_of, array_of, at, nth}
 use Rattle.bus.specs.Calls.{bus_number, Shared, chosen, bused, Bused}
 use Rattle.bus.specs.Found.{partly}
-use Rattle.bus.proofs.Numbers.{bus-zero, refused-some}
+use Rattle.bus.proofs.Numbers.{bus-zero}
+use Rattle.refusals.proofs.Laws.{refused_by}
 use Rattle.bus.proofs.Chips.{chip-at, row-set, array-set}
 
 -- what is left when chip k did what o says, and the others nothing
@@ -45,7 +46,7 @@ module _ (ds : List Device) (k : ℕ) (xs : List ℕ) (sent : List ℕ) (pulses 
   -- refused: everything as it came
   pub turn-refused : (q : Refusal) → number_of q ≡ bus_number ds (length xs) k → {a : Answer} → a ≡ bare (number_of q) → Bused (bused ds xs k sent pulses w response) a ds xs response
   turn-refused q e {a} p =
-      let r = refused-is ds xs k sent pulses w response (λ z. refused-some q (e ∙ z)) in
+      let r = refused-is ds xs k sent pulses w response (λ z. refused_by q (e ∙ z)) in
       record { answer = p ∙ (ap bare e ∙ ap (λ (s : Shared). s.answer) r); records = ap (λ (s : Shared). s.row) r; memory = ap (λ (s : Shared). s.array) r; line = ap (λ (s : Shared). s.response) r }
 
   -- the chosen chip did what a transaction does to it on its own bytes, and its record was stored

@@ -21,7 +21,8 @@ use Rattle.chip.proofs.Events.{after-length}
 use Rattle.bus.specs.Bus.{bytes_of, sum_of, chips_in, row_of, array_of, at}
 use Rattle.bus.specs.Calls.{wait_number, Waited, all_wait, bus_waited, AllWaited}
 use Rattle.bus.proofs.Rows.{at-any, sum-next, own_within}
-use Rattle.bus.proofs.Numbers.{wait-zero, refused-some}
+use Rattle.bus.proofs.Numbers.{wait-zero}
+use Rattle.refusals.proofs.Laws.{refused_by}
 use Rattle.bus.proofs.Chips.{chips-next, row-append, array-append}
 
 -- 0: what a wait leaves
@@ -127,5 +128,5 @@ module _ (ds : List Device) (xs : List ℕ) (t : ℕ) where
   pub wait-refused : (q : Refusal) → number_of q ≡ wait_number ds (length xs) → {r : ℕ} → r ≡ number_of q → AllWaited (bus_waited ds xs t) r ds xs
   unfolding bus_waited
   wait-refused q e {r} p =
-      let f : record { answer = wait_number ds (length xs); row = ds; array = xs } ≡ bus_waited ds xs t = other (wait_number ds (length xs)) _ _ (λ z. refused-some q (e ∙ z)) in
+      let f : record { answer = wait_number ds (length xs); row = ds; array = xs } ≡ bus_waited ds xs t = other (wait_number ds (length xs)) _ _ (λ z. refused_by q (e ∙ z)) in
       record { answer = p ∙ (e ∙ ap (λ (s : Waited). s.answer) f); records = ap (λ (s : Waited). s.row) f; memory = ap (λ (s : Waited). s.array) f }
