@@ -135,6 +135,20 @@ pub fn accepts(
     Ok(())
 }
 
+// The same by its number, as docs/PROMISES.md names it: 0 where the batch is carried out.
+pub fn batch_number(
+    device: Device,
+    array: usize,
+    items: &[u8],
+    responses: usize,
+    answers: usize,
+    missing: usize,
+) -> u8
+    ensures { result ≡ batch_number device array items.now responses answers missing }
+{
+    refusals::number(accepts(device, array, items, responses, answers, missing))
+}
+
 // A batch: the items carried out in order, or nothing at all. The sum of the bits missing is set in the first bytes of `missing`.
 pub fn run(
     device: Device,

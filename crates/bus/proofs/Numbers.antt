@@ -1,13 +1,14 @@
 -- What the numbers 51, 52, 6, 53 and 0 of a bus say.
 -- Assumes nothing.
-use mathlib.Core.Path.{◌≡◌, refl, sym}
+use mathlib.Core.Path.{◌≡◌, refl, sym, ap, ◌∙◌}
 use mathlib.Core.Bool.{Bool, true, false, not, ◌||◌, false≢true}
 use mathlib.Core.List.{List}
 use Prim.Native.Nat.{ℕ, ◌≤◌, ◌<◌}
 use native.Mathlib.Omega.{arith}
-use borrow.Author.Tests.{ltb-false, leb-false, eqb-true, eqb-false, not-false, lt-ltb, le-ltb, lt-leb, eq-eqb, ne_eqb}
+use borrow.Author.Tests.{ltb-false, leb-true, leb-false, eqb-true, eqb-false, not-false, lt-ltb, le-ltb, le-leb, lt-leb, eq-eqb, ne_eqb}
 use lib.Dec.{eqb, leb, ltb}
-use lib.ListN.{length}
+use lib.ListN.{length, take}
+use lib.Seq.{length-take-le, take_all}
 use Rattle.slices.proofs.Choices.{past}
 use Rattle.device.specs.declared.Device.{Device}
 use Rattle.bus.specs.Bus.{sum_of, all_sound}
@@ -77,3 +78,30 @@ zero-wait row array h = rw (in-range (length row) h.some h.few) (zero-whole row 
 pub zero-bus : (row : List Device) (array k : ℕ) → Whole row array → k < length row → bus_number row array k ≡ 0
 unfolding bus_number
 zero-bus row array k h l = rw (in-range (length row) h.some h.few, lt-leb (length row) k l) (zero-whole row array h)
+
+-- ---- a row that is the first n of nine places
+
+module _ (ds : List Device) (n : ℕ) (nine : length ds ≡ 9) where
+  -- the first n of nine places are in range exactly if n is
+  range-take : out_of_range (length (take n ds)) ≡ out_of_range n
+  range-take = go (leb n 9) refl
+    where
+      go : (t : Bool) → leb n 9 ≡ t → out_of_range (length (take n ds)) ≡ out_of_range n
+      go true e = let h = leb-true n 9 e in ap out_of_range (length-take-le n ds (omega arith))
+      go false e =
+          let h = leb-false n 9 e in
+          let l : length (take n ds) ≡ 9 = ap length (take_all n ds (omega arith)) ∙ nine in
+          out-above (length (take n ds)) (omega arith) ∙ sym (out-above n (omega arith))
+
+  -- and then there are n of them
+  pub counted : out_of_range n ≡ false → length (take n ds) ≡ n
+  counted e = let r = range-is n e in length-take-le n ds (omega arith)
+
+  -- the numbers by the tests of n
+  pub bus-absent : (array k : ℕ) → out_of_range n ≡ false → n ≤ k → 52 ≡ bus_number (take n ds) array k
+  unfolding bus_number
+  bus-absent array k e f = rw (range-take, e, counted e, le-leb n k f)
+
+  pub bus-in : (array k : ℕ) → out_of_range n ≡ false → k < n → whole_number (take n ds) array ≡ bus_number (take n ds) array k
+  unfolding bus_number
+  bus-in array k e f = rw (range-take, e, counted e, lt-leb n k f)

@@ -6,7 +6,7 @@ use mathlib.Core.List.{List, [], ◌∷◌}
 use Prim.Native.Nat.{ℕ, suc, ◌+◌, ◌-◌, ◌≤◌, ◌<◌, min}
 use native.Mathlib.Nat.{zero-add}
 use native.Mathlib.Omega.{arith}
-use borrow.Author.Tests.{lt-ltb, le-ltb}
+use borrow.Author.Tests.{lt-ltb, le-ltb, lt-leb}
 use lib.Dec.{eqb}
 use lib.ListN.{length, get_or, take, replicate, length-replicate}
 use Rattle.slices.specs.Changed.{map_at, window, put, sum_from, sum_at}
@@ -25,7 +25,7 @@ use Rattle.chip.specs.declared.answers.Verdict.{Verdict}
 use Rattle.chip.specs.declared.answers.Verdict.TheVariants.{Executed}
 use Rattle.chip.specs.declared.Answer.{Answer}
 use Rattle.chip.specs.Table.{address_of, only_if, instruction_in}
-use Rattle.chip.specs.Answers.{chip_number, decided, host_number, verdict_of}
+use Rattle.chip.specs.Answers.{chip_number, decided, delivery_answer, host_number, verdict_of}
 use Rattle.chip.specs.Line.{Driven, silent, drives, on_line, kth, heard, heard_row, driven, lined, driving, driving_at, first_from, first_of, count_of, span_of}
 use Rattle.chip.specs.Outcome.{Outcome, outcome_of, transacted, Meets, Foreseen, Delivered}
 use Rattle.chip.proofs.Lines.{driven-from, driven-before, span-is}
@@ -141,3 +141,8 @@ one-outcome s t = (s.answer ∙ sym t.answer, s.device ∙ sym t.device, s.memor
 pub one-delivery : {part : ℕ} {array : List ℕ} {program sector bulk status : ℕ} {r s : Checked} {array' array'' : List ℕ}
     → Delivered part array program sector bulk status r array' → Delivered part array program sector bulk status s array'' → (r ≡ s) × (array' ≡ array'')
 one-delivery p q = (same-checked (p.answer ∙ sym q.answer) (p.device ∙ sym q.device), p.memory ∙ sym q.memory)
+
+-- a part number above 255 is no part's
+pub large : (part array p s b t : ℕ) → 255 < part → delivery_answer part array p s b t ≡ 1
+unfolding delivery_answer
+large part array p s b t h = let k : 6 < part = omega arith in rw (lt-leb part 6 k)

@@ -50,6 +50,13 @@ pub fn host_accepts(
     Ok(())
 }
 
+// The same by its number, as docs/PROMISES.md names it: 0 where the host side takes the transaction.
+pub fn host_number(device: Device, array: usize, n: usize, pulses: u32, response: usize) -> u8
+    ensures { result ≡ host_number device array n pulses response }
+{
+    refusals::number(host_accepts(device, array, n, pulses, response))
+}
+
 // Whether the sector of an address is among the protected ones.
 #[tactic(auto, unfolding(crate::specs::Answers::in_protected))]
 fn in_protected(figures: Figures, bp: u8, at: u32) -> bool

@@ -79,13 +79,13 @@ fn write_front(d: Device, out: &mut [u8])
     ensures { out.new ≡ map_at (stored 0 (front_of d)) out.old }
 {
     slices::store(out, 0, &head_bytes(d));
-    slices::store(out, 8, &ticks_of(d.mode).to_le_bytes());
-    slices::store(out, 12, &d.program.to_le_bytes());
-    slices::store(out, 16, &d.sector_erase.to_le_bytes());
-    slices::store(out, 20, &d.bulk_erase.to_le_bytes());
-    slices::store(out, 24, &d.write_status.to_le_bytes());
+    slices::store_word(out, 8, ticks_of(d.mode));
+    slices::store_word(out, 12, d.program);
+    slices::store_word(out, 16, d.sector_erase);
+    slices::store_word(out, 20, d.bulk_erase);
+    slices::store_word(out, 24, d.write_status);
     slices::store(out, 28, &cycle_bytes(d.cycle));
-    slices::store(out, 32, &d.cycle.address.to_le_bytes());
+    slices::store_word(out, 32, d.cycle.address);
 }
 
 // What comes from the slots on written to its place in `out`: the slots, the number of bytes named, the lock registers.
@@ -93,7 +93,7 @@ fn write_rest(d: Device, out: &mut [u8])
     ensures { out.new ≡ map_at (stored front_length (d.cycle.slots ++ (word d.cycle.named ++ d.locks))) out.old }
 {
     slices::store(out, FRONT, &d.cycle.slots);
-    slices::store(out, NAMED, &d.cycle.named.to_le_bytes());
+    slices::store_word(out, NAMED, d.cycle.named);
     slices::store(out, LOCKS, &d.locks);
 }
 

@@ -2,7 +2,7 @@
 #![tactic(auto)]
 
 ghost use Rattle.std.specs.Prelude.{◌≡◌};
-ghost use Rattle.refusals.specs.Numbers.{number_of};
+ghost use Rattle.refusals.specs.Numbers.{number_of, answer_of};
 
 // The refusals in the order of their numbers; from `NoBytes` to `LockFrozen` it is the chip that ignores a transaction.
 #[derive(Clone, Copy, Debug, PartialEq, Eq)]
@@ -77,5 +77,15 @@ impl From<Refusal> for u8 {
 
     fn from(refusal: Refusal) -> u8 {
         refusal as u8
+    }
+}
+
+// The number that a check comes to: 0 where it refuses nothing.
+pub fn number(checked: Result<(), Refusal>) -> u8
+    ensures { result ≡ answer_of checked }
+{
+    match checked {
+        Ok(()) => 0,
+        Err(refusal) => refusal.into(),
     }
 }

@@ -7,6 +7,7 @@ use Prim.Native.Nat.{ℕ, ◌+◌, ◌≤◌, ◌<◌}
 use native.Mathlib.Omega.{arith}
 use lib.Dec.{ltb}
 use lib.ListN.{length, get_or, replicate, length-replicate}
+use Rattle.slices.specs.Bytes.{word_at}
 use Rattle.parts.specs.declared.Figures.{Figures}
 use Rattle.parts.specs.Parts.{figures_of}
 use Rattle.device.specs.declared.Device.{Device}
@@ -17,6 +18,8 @@ use Rattle.chip.specs.Outcome.{Outcome, outcome_of, transacted, Foreseen}
 use Rattle.chip.specs.Events.{sends, waits, sent}
 use Rattle.chip.proofs.Laws.{count-le}
 use Rattle.chip.proofs.Rules.{outcome-ind, answer-few}
+use Rattle.batch.specs.Items.{flag_in, event_in}
+use Rattle.batch.proofs.One.{waits-is}
 use Rattle.report.specs.Totals.{Dealt, total_of, totals}
 use Rattle.report.specs.Found.{Grown, Seen}
 use Rattle.report.proofs.Counts.{cond-none}
@@ -37,9 +40,13 @@ count-few d array bytes pulses w response =
 
 module _ (d : Device) (array : ℕ) (part : ℕ) where
   -- a wait
-  pub seen-waits : (ticks : ℕ) (counts : List ℕ) → length counts ≡ totals → {r : Checked} → WaitForeseen d array ticks r → Seen (waits ticks) d array part counts r.device counts
-  seen-waits ticks counts long w xs l =
+  pub seen-ticks : (ticks : ℕ) (counts : List ℕ) → length counts ≡ totals → {r : Checked} → WaitForeseen d array ticks r → Seen (waits ticks) d array part counts r.device counts
+  seen-ticks ticks counts long w xs l =
       record { device = w.device xs l; grown = record { long = long; each = λ i h. omega (arith, total-none (figures_of part) i) } }
+
+  -- the same of an item that is a wait
+  pub seen-waits : (item : List ℕ) → flag_in item ≡ 16 → (counts : List ℕ) → length counts ≡ totals → {r : Checked} → WaitForeseen d array (word_at item 3) r → Seen (event_in item) d array part counts r.device counts
+  seen-waits item e counts long w xs l = rw (waits-is item e) (seen-ticks (word_at item 3) counts long w xs l)
 
   module _ (bytes : List ℕ) (pulses : ℕ) (w : Bool) {o : Done} (p : Foreseen d array bytes pulses w (length bytes) o.answer o.device) where
     abbrev zeros : List ℕ

@@ -3,7 +3,7 @@
 
 ghost use Rattle.std.specs.Prelude.{◌≡◌, ◌+◌, ◌%◌, get_or, take, drop, replicate};
 ghost use Rattle.slices.specs.Changed.{map_at, window, put, stored};
-ghost use Rattle.slices.specs.Bytes.{word_at, long_at};
+ghost use Rattle.slices.specs.Bytes.{word, word_at, long_at};
 
 // The remainder; by 0 it is the number itself.
 pub fn rest(a: usize, b: usize) -> usize
@@ -88,4 +88,11 @@ pub fn store(out: &mut [u8], at: usize, src: &[u8])
 {
     let start = at.min(out.len());
     copy(&mut out[start..], src);
+}
+
+// The bytes from `at` on become a number's four, little-endian, as far as there are any.
+pub fn store_word(out: &mut [u8], at: usize, n: u32)
+    ensures { out.new ≡ map_at (stored at (word n)) out.old }
+{
+    store(out, at, &n.to_le_bytes());
 }

@@ -16,5 +16,5 @@ returns c =
     let n : length a.d.cycle.slots ≡ 256 = search rules in
     let w : List ℕ = a.d.cycle.slots ++ word a.d.cycle.named in
     let m : front_length + length w ≡ locks_place = ap (λ (k : ℕ). front_length + k) (length-append a.d.cycle.slots (word a.d.cycle.named)) ∙ rw n in
-    let f2 = store-behind front_length named_place a.d.cycle.slots (word a.d.cycle.named) _ c.store.ensures (rw n) (rw c.to_le_bytes.ensures at c.store-2.ensures) in
-    store-behind front_length locks_place w a.d.locks _ f2 m c.store-3.ensures ∙ ap (λ (t : List ℕ). map_at (stored front_length t) a.out.now) (append_assoc a.d.cycle.slots (word a.d.cycle.named) a.d.locks)
+    let f2 = store-behind front_length named_place a.d.cycle.slots (word a.d.cycle.named) _ c.store.ensures (rw n) c.store_word.ensures in
+    store-behind front_length locks_place w a.d.locks _ f2 m c.store-2.ensures ∙ ap (λ (t : List ℕ). map_at (stored front_length t) a.out.now) (append_assoc a.d.cycle.slots (word a.d.cycle.named) a.d.locks)
