@@ -32,9 +32,12 @@ def closing(text, at):
 
 def functions():
     for path, text in texts():
-        for m in re.finditer(r"\bfn (\w+)(?:<[^(]*>)?\(", text):
-            end = closing(text, m.end() - 1)
-            parameters = re.sub(r"\s+", " ", text[m.end():end - 1]).strip(" ,")
+        for m in re.finditer(r"\bfn (\w+)", text):
+            at = text.index(">(", m.end()) + 1 if text[m.end()] == "<" else m.end()
+            if text[at] != "(":
+                continue
+            end = closing(text, at)
+            parameters = re.sub(r"\s+", " ", text[at + 1:end - 1]).strip(" ,")
             body = re.compile(r"\n *\{\n|\) \{\n|[>\w] \{\n").search(text, end - 2)
             start = text.index("{", body.start()) if body else len(text)
             head = text[end:start]
@@ -57,7 +60,7 @@ def point_1():
         if re.search(r"\b(why|fault): u8", f.parameters):
             yield f.place, f"{f.name}: a number for a kind"
     yield from found(r"\n +(pub )?(answer|number): u8,|\b(Refused|Ignored)\(u8\)")
-    yield from found(r"\n +(pub )?(driven|more|waits): bool,")
+    yield from found(r"\n +(pub )?(driven|more|waits|good): bool,")
 
 
 def point_2():
@@ -90,7 +93,7 @@ def point_5():
     facts = collections.Counter()
     for f in functions():
         for clause in re.findall(r"requires(?: \w+)? \{ (.*) \}", f.clauses):
-            facts.update(re.split(r" × ", clause))
+            facts.update(re.sub(r"[()]|\.(?:old|now)", "", fact) for fact in clause.split(" × "))
         parameters = [p for p in f.parameters.split(", ") if ": " in p and not p.startswith("rt: ")]
         if len(parameters) >= 7:
             yield f.place, f"{f.name}({', '.join(parameters)})"
@@ -108,7 +111,7 @@ def point_6():
 
 def point_7():
     """the same frame around different calls, switches on which step"""
-    yield from found(r"\n +if came\.answer != 0")
+    yield from found(r"\n +if came\.answer != 0|match opened\(packed\)")
     yield from found(r"\n +match (what|command|verdict) \{")
 
 

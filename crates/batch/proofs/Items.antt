@@ -1,6 +1,6 @@
 -- Laws of the items: the next one as the code finds it, and what the first pass finds.
 -- Assumes nothing.
-use Rattle.std.proofs.Common.{◌≡◌, ℕ, zero, suc, ◌+◌, ◌/◌, ◌%◌, ◌<◌, ◌≤◌, min, max, Bool, true, false, cond, ◌&&◌, eqb, List, [], ◌∷◌, map, length, take, drop, refl, ap, ◌∙◌, le_refl, arith, length-drop, length-take}
+use Rattle.std.proofs.Common.{◌≡◌, ℕ, zero, suc, ◌+◌, ◌/◌, ◌%◌, ◌<◌, ◌≤◌, min, max, Bool, true, false, cond, ◌&&◌, eqb, List, [], ◌∷◌, map, length, take, drop, refl, sym, ap, ◌∙◌, le_refl, arith, length-drop, length-take}
 use native.Mathlib.Nat.{zero-min, suc-min-suc}
 use lib.Seq.{take-nil, drop-nil}
 use Rattle.slices.specs.Bytes.{word_at}
@@ -87,23 +87,22 @@ map-long (i ∷ is) = ap suc (map-long is)
 
 -- what is left, added to what was counted, is the whole
 pub record Measured (items rest : List (List ℕ)) (s : Sizes) : Type 0 where
-  pub good : s.good && all_good rest ≡ all_good items
+  pub good : all_good rest ≡ all_good items
   pub room : s.room + room_for (map event_in rest) ≡ room_for (map event_in items)
   pub places : s.count + length (map event_in rest) ≡ length (map event_in items)
-
-and_assoc : (a b c : Bool) → (a && b) && c ≡ a && (b && c)
-and_assoc true b c = refl
-and_assoc false b c = refl
 
 -- and neither sum is more than the bytes
 pub measured-few : (b : List ℕ) {rest : List (List ℕ)} {s : Sizes} → Measured (items_of b) rest s → (s.room + room_for (map event_in rest) ≤ length b) × (s.count + length rest ≤ length b)
 measured-few b {rest} m = (omega (arith, m.room, room-few (items_of b), items-bytes b), omega (arith, m.places, map-long rest, map-long (items_of b), items-few b))
 
-pub measured_next : {items rest : List (List ℕ)} {s : Sizes} (i : List ℕ) (is : List (List ℕ)) → rest ≡ i ∷ is → Measured items rest s
-    → Measured items is (record { good = s.good && good_item i; room = s.room + room_of (event_in i); count = s.count + 1 })
-measured_next {items} {rest} {s} i is e m =
+pub measured_next : {items rest : List (List ℕ)} {s : Sizes} (i : List ℕ) (is : List (List ℕ)) → rest ≡ i ∷ is → good_item i ≡ true → Measured items rest s
+    → Measured items is (record { room = s.room + room_of (event_in i); count = s.count + 1 })
+measured_next i is e g m =
     record {
-      good = and_assoc s.good (good_item i) _ ∙ (rw e at m.good);
+      good = rw (e, g) at m.good;
       room = omega (arith, rw e at m.room);
       places = omega (arith, rw e at m.places);
     }
+
+pub measured_bad : {items rest : List (List ℕ)} {s : Sizes} (i : List ℕ) (is : List (List ℕ)) → rest ≡ i ∷ is → good_item i ≡ false → Measured items rest s → all_good items ≡ false
+measured_bad i is e g m = sym (rw (e, g) at m.good)

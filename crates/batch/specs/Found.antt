@@ -18,7 +18,6 @@ event_of (Wait ticks) = waits ticks
 
 -- what the first pass finds
 pub record SizesAre (items : List ℕ) (s : Sizes) : Type 0 where
-  pub good : s.good ≡ all_good (items_of items)
   pub room : s.room ≡ room_for (events_of items)
   pub count : s.count ≡ length (events_of items)
 

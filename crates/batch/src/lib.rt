@@ -1,7 +1,7 @@
 // A day's transactions in one call: items in bytes, carried out in order.
 #![tactic(auto)]
 
-ghost use Rattle.std.specs.Prelude.{◌≡◌, ◌+◌, ◌≤◌, min, true, length};
+ghost use Rattle.std.specs.Prelude.{◌≡◌, ◌+◌, ◌≤◌, min, true, cond, length, IfOk};
 ghost use Rattle.device.specs.Chip.{chip};
 ghost use Rattle.chip.specs.Events.{Good};
 ghost use Rattle.refusals.specs.Numbers.{answer_of};
@@ -31,29 +31,27 @@ fn room(item: &[u8]) -> usize
     }
 }
 
-// What a first pass over the items finds.
+// What a first pass over good items finds: the response bytes they need, and how many they are.
 #[derive(Clone, Copy)]
 struct Sizes {
-    good: bool,
     room: usize,
     count: usize,
 }
 
-// The first pass: whether all items are good, the response bytes they need, and how many they are.
-fn measure(items: &[u8]) -> Sizes
-    ensures { SizesAre items.now result }
+// The first pass: 9 where an item is not good.
+fn measure(items: &[u8]) -> Result<Sizes, Refusal>
+    ensures number { answer_of result ≡ cond (all_good (items_of items.now)) 0 9 }
+    ensures sizes { IfOk result (SizesAre items.now) }
 {
-    let mut sizes = Sizes {
-        good: true,
-        room: 0,
-        count: 0,
-    };
+    let mut sizes = Sizes { room: 0, count: 0 };
     for item in EachItem::of(items) {
-        sizes.good = sizes.good & good(item);
+        if !good(item) {
+            return Err(Refusal::BadItem);
+        }
         sizes.room += room(item);
         sizes.count += 1;
     }
-    sizes
+    Ok(sizes)
 }
 
 // Carries out one item, with as many response bytes as it needs.
@@ -74,7 +72,7 @@ fn carry_one(device: Device, array: &mut [u8], item: &[u8], response: &mut [u8])
     }
 }
 
-// A record after the items, and the bits missing in them.
+// A record after the items, and the bits missing in them. `pins` has one in 32 bits; a generic one would have to lie in `chip`, which adds nothing up.
 #[derive(Clone, Copy)]
 struct Tally {
     device: Device,
@@ -93,7 +91,7 @@ fn carry_all(
     ensures { CarriedAs (carried_from (events_of items.now) (chip device array.old) 0 responses.old 0 answers.old 0) result array.new responses.new answers.new }
 {
     let mut tally = Tally { device, missing: 0 };
-    // `from` by hand; tried: of the parts that `split_at_mut` cuts off in a loop, nothing is known after it
+    // `from` by hand, and the answers by the index: of what `split_at_mut` cuts off in a loop, and of a `zip` with `iter_mut`, nothing is known after it
     let mut from = 0;
     for (k, item) in EachItem::of(items).enumerate() {
         let end = from + room(item);
@@ -125,10 +123,7 @@ pub fn accepts(
     if array != Figures::of(device.part).bytes {
         return Err(Refusal::ArrayLength);
     }
-    let sizes = measure(items);
-    if !sizes.good {
-        return Err(Refusal::BadItem);
-    }
+    let sizes = measure(items)?;
     if responses < sizes.room || answers < sizes.count || missing < MISSING {
         return Err(Refusal::BufferShort);
     }

@@ -6,10 +6,11 @@ use script::Command;
 use slices::front;
 use std::io::{self, Read};
 
-// The answer to a line that asks nothing.
+// The answer to a line that asks nothing. Answers are numbers here, as they are printed; this one is the bench's own and no refusal's.
 const MALFORMED: u8 = 90;
 
 // The characters of a line so far. The buffer is one longer than a line may be, and what comes past its end is dropped.
+// Fixed memory, here and below: nothing in this repository allocates.
 #[derive(Drop)]
 struct Line {
     bytes: [u8; 601],
@@ -167,6 +168,7 @@ impl Bench {
     // Reads to the end of the input; the lines that a read brings whole are answered before the next read.
     fn run(&mut self, rt: &impl Print, reader: &mut impl Read) -> io::Result<()> {
         let mut chunk = [0u8; 4096];
+        // counted, and no `loop`: one without an end would need a handle
         for _ in 0..u64::MAX {
             let n = reader.read(&mut chunk)?;
             if n == 0 {

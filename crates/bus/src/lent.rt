@@ -8,7 +8,7 @@ use crate::{accepts_turn, accepts_wait, bytes_in, bytes_of};
 use chip::{Answer, Done};
 use device::Device;
 
-// One transaction on the bytes `from` up to `to` of the array.
+// One transaction on the bytes `from` up to `to` of the array: `chip::transact`, with a clause for the whole array.
 fn transact_part(
     device: Device,
     from: usize,
@@ -53,6 +53,7 @@ fn wait_all(row: &mut [Device], array: &mut [u8], ticks: u32)
     requires { wait_number row.old (length array.old) ≡ 0 }
     ensures { AllWaited (bus_waited row.old array.old ticks) 0 row.new array.new }
 {
+    // `from` by hand: of the parts that `split_at_mut` cuts off in a loop, nothing is known after it
     let mut from = 0;
     for device in row.iter_mut() {
         let to = from + bytes_of(*device);

@@ -95,7 +95,7 @@ fn accepts_turn(row: &[Device], chip: usize, array: usize) -> Result<(), Refusal
 }
 
 // One transaction with one chip of a row that is the first n places; the others do nothing.
-// The nine places with n beside them: `Turns` and `Passes` promise of such a row. `lent` takes a slice.
+// The nine places with n beside them: `Turns` and `Passes` promise of such a row. `lent` takes a slice. Bytes, pulses and W each by itself, as `bused` takes them and C hands them.
 pub fn transact(
     mut row: [Device; PLACES],
     n: usize,

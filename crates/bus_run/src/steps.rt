@@ -72,7 +72,7 @@ impl<const N: usize> Bus<N> {
     // One step on a lent row.
     fn lent(&mut self, step: Step, sent: &[u8]) -> Told {
         let mut line = [0x55; LINE];
-        // tried: a part of the field lent on, which the check does not cover yet
+        // the row out and back: a part of a field lent on is not covered by the check yet
         let mut row = self.row;
         let chips = &mut row[..step.chips.min(PLACES)];
         let bytes = &mut self.array;
@@ -161,7 +161,7 @@ impl Step {
 }
 
 impl Told {
-    // Prints the answer, and as much of the response as there is room for.
+    // Prints the answer, field by field, since `chip`, whose type it is, prints nothing; and as much of the response as there is room for.
     fn print(self, rt: &impl Print, room: usize) -> io::Result<()> {
         let x = self.answer;
         print!(rt; " {} {} {} {} ", x.number, x.first, x.count, x.missing)?;
@@ -227,6 +227,7 @@ impl<const N: usize> Two<N> {
     // The steps of a script, each followed by the bytes sent.
     pub fn run(&mut self, rt: &impl Print, script: &[u8]) -> io::Result<()> {
         let mut rest = script;
+        // a `while`, and nothing counted: each step says its own length
         while !rest.is_empty() {
             let (head, tail) = rest.split_at(rest.len().min(5));
             let count = usize::from(digit(head, 4));

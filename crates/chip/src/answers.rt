@@ -21,7 +21,7 @@ pub enum Verdict {
     Executed,
 }
 
-// Whether the host side takes a transaction: the refusals in their order, 6, 2, 3, 4, 5.
+// Whether the host side takes a transaction: the refusals in their order, 6, 2, 3, 4, 5. Lengths and pulses each by itself, here and below, as `host_number` and `chip_number` have them.
 #[tactic(auto, unfolding(crate::specs::Answers::host_number))]
 pub fn host_accepts(
     device: Device,

@@ -104,7 +104,7 @@ fn execute(
 }
 
 // One transaction: the bytes sent, the further pulses, and the level of W as Chip Select rises. No transaction changes a byte of the array: a cycle does, at its end.
-// The bytes, the pulses and W each by itself, as the calls from C hand them.
+// The bytes, the pulses and W each by itself, here and below: `Transacted`, `Foreseen`, `Bused` and `Jobbed` take them so, and C hands them so.
 #[tactic(auto, using(crate::proofs::Laws::executed_short), unfolding(crate::specs::Outcome::transacted, crate::specs::Outcome::outcome_of, crate::specs::Answers::verdict_of))]
 pub fn transact(
     device: Device,
@@ -186,7 +186,7 @@ fn delivery_accepts(
     Ok(small)
 }
 
-// Delivers a part with the given durations: the array becomes FF.
+// Delivers a part with the given durations: the array becomes FF. The four each by itself: `Delivered` takes them so, and C hands them so.
 pub fn deliver(
     part: u32,
     array: &mut [u8],

@@ -119,7 +119,7 @@ impl<'a> Case<'a> {
         self.same = self.same & answers & alike;
     }
 
-    // Prints what the first entry did to the record that was `before`, with `n` bytes sent.
+    // Prints what the first entry did to the record that was `before`, with `n` bytes sent: the answer field by field, since `chip`, whose type it is, prints nothing.
     fn print_done(&self, rt: &impl Print, before: Device, x: Answer, n: usize) -> io::Result<()> {
         let first = &self.by_value;
         print!(rt; " | {} {} {} {} ", x.number, x.first, x.count, x.missing)?;

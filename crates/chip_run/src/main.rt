@@ -14,7 +14,7 @@ use protected::{Sectors, table};
 use std::io;
 use steps::case;
 
-// A case on the bench part.
+// A case on the bench part: a short name for `case`, which is the one generic function of all parts.
 fn bench(rt: &impl Print, name: &[u8], script: &[u8]) -> io::Result<()> {
     case::<4096>(rt, name, 0, script)
 }

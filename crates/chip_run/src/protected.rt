@@ -51,6 +51,7 @@ pub(crate) fn table<const BYTES: usize>(
 ) -> io::Result<()>
     requires { BYTES < 2 ^ 63 }
 {
+    // a clause of each array of `BYTES` bytes; of a length written out each byte would be computed
     let mut a = [0; BYTES];
     let mut b = [0; BYTES];
     let mut r = [0; 4];

@@ -62,7 +62,8 @@ pub struct Uses {
     pub pe: bool,
 }
 
-// A remembered cycle: its kind, its address, the 256 slots of a program or a page write, the settings that are being written, how many bytes a page write named; zero but for what its kind uses. No enum with fields: packing and definitions hold each field, used or not.
+// A remembered cycle: its kind, its address, the 256 slots of a program or a page write, the settings that are being written, how many bytes a page write named; zero but for what its kind uses.
+// No enum with fields: `fields_of` and `pack_of` hold each field, used or not.
 #[derive(Clone, Copy, Debug, PartialEq, Eq)]
 pub struct Cycle {
     pub kind: Kind,

@@ -30,7 +30,8 @@ pub enum Mode {
     Deep,
 }
 
-// A chip between two transactions. The four after the mode are how many ticks each kind of cycle takes; then the cycle that runs, and the lock register of each sector of an M25PE part, zero on the others. The part is a number, and the four no struct of their own: the definitions have these fields.
+// A chip between two transactions. The four after the mode are how many ticks each kind of cycle takes; then the cycle that runs, and the lock register of each sector of an M25PE part, zero on the others.
+// The part is a number, since a record whose part is none is refused as not sound (`sound`); the four are no struct of their own, since `delivered` and `fields_of` have these fields.
 #[derive(Clone, Copy, Debug, PartialEq, Eq)]
 pub struct Device {
     pub part: u8,
@@ -46,7 +47,8 @@ pub struct Device {
     pub locks: [u8; REGISTERS],
 }
 
-// The answer of a call that checks its record, and the record handed back. The answer is a number: the definitions of the calls have it so.
+// The answer of a call that checks its record, and the record handed back.
+// The answer is a number: `unpack_of` and `Handed`, of which the theorems speak, have it so.
 #[derive(Clone, Copy, Debug, PartialEq, Eq)]
 pub struct Checked {
     pub answer: u8,

@@ -105,7 +105,7 @@ pub fn write(d: Device, out: &mut [u8])
     write_rest(d, out);
 }
 
-// As many bytes of a packing as a field has, from a place on.
+// As many bytes of a packing as a field has, from a place on. Nothing is filled up here, as `slices::word_at` does.
 fn part_in<const N: usize>(b: &[u8; LENGTH], from: usize) -> [u8; N]
     requires { from + N ≤ packed_length }
     ensures { result ≡ take N (drop from b.now) }

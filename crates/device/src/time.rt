@@ -76,6 +76,7 @@ impl Device {
     }
 
     // Waits `t` ticks. 6 and 2 change nothing.
+    // Each call begins with its check: a frame that is lent the two lines after it as a closure would be no plainer.
     pub fn wait(self, array: &mut [u8], t: u32) -> Checked
         ensures { Handed (wait_call (chip self array.old) t) result array.new }
     {

@@ -38,7 +38,8 @@ impl From<Fault> for u8 {
     }
 }
 
-// An answer, by its number: C gives it as one. And a number of blocks: with 33 the place of the first bad one, with a salvage's 0 how many were bad.
+// An answer and a number of blocks: with 33 the place of the first bad one, with a salvage's 0 how many were bad.
+// The answer is a number: `Read`, `Salvaged` and `with_blocks`, of which the theorems speak, have it so.
 #[derive(Clone, Copy, Debug, PartialEq, Eq)]
 pub struct Reply {
     pub answer: u8,
@@ -69,6 +70,7 @@ fn filled_up(part: &[u8]) -> [u8; 504]
 }
 
 // Writes a block: its number, its sums, and a part of the array, filled up with FF.
+// 512 bytes by a clause here and below: a part of a slice becomes a `&mut [u8; 512]` through an option, whose `None` no call takes.
 fn write_block(block: &mut [u8], number: usize, part: &[u8])
     requires { length block.old ≡ 512 }
     ensures { block.new ≡ block_of number (filled_up part.now) }
@@ -145,6 +147,7 @@ fn read_all(array: &mut [u8], image: &[u8])
     ensures { array.new ≡ map_at (unimaged image.now) array.old }
 {
     let (blocks, _) = image.as_chunks::<512>();
+    // the array by the place: what `chunks_mut` lends out leaves nothing known of the slice
     for (place, block) in blocks.iter().enumerate() {
         let from = place * 504;
         let to = (from + 504).min(array.len());
@@ -165,7 +168,8 @@ fn first_bad(image: &[u8]) -> Option<usize>
     None
 }
 
-// Notes a bad block at byte `at` of the list, its number and the reason; the next free byte. The place goes in and out by itself, as `Noted` has it.
+// Notes a bad block at byte `at` of the list, its number and the reason; the next free byte.
+// The place goes in and out: a struct for one function and one caller would be no plainer.
 fn note(list: &mut [u8], at: usize, place: usize, found: Result<(), Fault>) -> usize
     requires { at + 8 ≤ length list.old }
     ensures { Noted list.old at place (reason_in found) result list.new }
@@ -241,7 +245,7 @@ fn may_salvage(part: u32, image: usize, list: usize) -> Result<(), Refusal>
     Ok(())
 }
 
-// Writes the image of an array; the answer by its number, as C gives it.
+// Writes the image of an array. The answer is a number: `Written`, of which the theorems speak, has it so.
 #[tactic(auto, using(crate::proofs::Calls::copy_fits, crate::proofs::Calls::blocks_needed, crate::proofs::Calls::blocks_hold))]
 pub fn write(part: u32, array: &[u8], image: &mut [u8]) -> u8
     ensures { Written part array.now image.old result image.new }

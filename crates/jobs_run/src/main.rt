@@ -89,6 +89,7 @@ fn print_edge(rt: &impl Print, array: &[u8]) -> io::Result<()> {
 fn beside<const BYTES: usize>(rt: &impl Print, register: &[u8]) -> io::Result<()>
     requires { BYTES < 2 ^ 63 }
 {
+    // a clause of each array of `BYTES` bytes; of a length written out each byte would be computed
     let mut array = [0; BYTES];
     let mut chip = Chip::delivered(6, &mut array);
     chip.send(b"\x06");

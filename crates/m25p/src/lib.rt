@@ -15,6 +15,7 @@ ghost use Rattle.m25p.specs.Report.{ReportedC};
 ghost use Rattle.m25p.specs.Image.{with_blocks, WrittenC, ReadC, SalvagedC};
 ghost use Rattle.m25p.specs.Bus.{bused_c, BusedC, bus_waited_c, BusWaitedC};
 ghost use Rattle.chip.specs.Outcome;
+
 // Rows of packed records.
 mod rows;
 
@@ -22,6 +23,7 @@ use chip::{Answer, Done};
 use device::packing::{LENGTH, unpack};
 use device::{Checked, Device};
 use image::Reply;
+use refusals::Refusal;
 
 // The four numbers of an answer in 64 bits.
 fn packed_answer(answer: Answer) -> u64
@@ -41,7 +43,7 @@ fn bare(number: u8) -> u64
     packed_answer(Answer::bare(number))
 }
 
-// The record that packed bytes hold, or what answers where they hold none.
+// The record that packed bytes hold, or what answers where they hold none. Each call matches on it; those that are lent the array alone are one function, `timed`, and a closure that is lent three buffers more would be no plainer.
 fn opened(packed: &[u8]) -> Result<Device, u64>
     ensures { MatchResult result (λ d. ((unpack_of packed.now).answer ≡ 0) × (d ≡ (unpack_of packed.now).device)) (λ r. ((unpack_of packed.now).answer ≢ 0) × (r ≡ packed_answer (Outcome.bare (unpack_of packed.now).answer))) }
 {
@@ -95,7 +97,7 @@ pub fn m25p_deliver(
     ensures { DeliveredC packed.old part array.old program sector_erase bulk_erase write_status result packed.new array.new }
 {
     if packed.len() != LENGTH {
-        return bare(8);
+        return bare(Refusal::PackedLength.into());
     }
     let done = chip::deliver(part, array, program, sector_erase, bulk_erase, write_status);
     checked(done, packed)
@@ -257,7 +259,7 @@ pub fn m25p_bus_transact(
 {
     let n = row.len() / LENGTH;
     if row.len() % LENGTH != 0 {
-        return bare(8);
+        return bare(Refusal::PackedLength.into());
     }
     let at = chip as usize;
     let records = rows::read(row);
@@ -276,7 +278,7 @@ pub fn m25p_bus_wait(row: &mut [u8], array: &mut [u8], ticks: u32) -> u64
 {
     let n = row.len() / LENGTH;
     if row.len() % LENGTH != 0 {
-        return bare(8);
+        return bare(Refusal::PackedLength.into());
     }
     let records = rows::read(row);
     let done = bus::wait(records, n, array, ticks);

@@ -14,13 +14,14 @@ pub(crate) fn read(row: &[u8]) -> [Device; PLACES]
     let mut records = [Device::zero(); PLACES];
     let (packings, _) = row.as_chunks::<LENGTH>();
     let first = &packings[..packings.len().min(PLACES)];
+    // the records by the index: a `zip` with `iter_mut` leaves nothing known of them
     for (at, packed) in first.iter().enumerate() {
         records[at] = unpack(packed).device;
     }
     records
 }
 
-// Sound records written one after another, from place `first` of the row on.
+// Sound records written one after another, from place `first` of the row on. The place is beside the row, since `BusedC` speaks of the whole row.
 pub(crate) fn write(records: &[Device], first: usize, row: &mut [u8])
     requires { ((first + length records.now) * 304 ≤ length row.old) × (all_sound records.now ≡ true) }
     ensures { row.new ≡ take (first * 304) row.old ++ (packed_row records.now ++ drop ((first + length records.now) * 304) row.old) }

@@ -38,7 +38,7 @@ pub struct M25pe40;
 // A part's figures as one value. `identifies` says whether Read Identification, 9F, exists; `sleeps` whether deep
 // power-down and its release, B9 and AB, do; `pe` whether it is an M25PE part, with 0A, DB, 20, E5, E8 and a lock
 // register for each sector, on which AB only releases. A part without subsectors has its sector's bytes there.
-// Flags and values side by side, not options: the definitions have each of these fields.
+// Flags and values side by side, not options: `bench` and the other six of specs/Parts have each of these fields.
 #[derive(Clone, Copy, Debug, PartialEq, Eq)]
 pub struct Figures {
     pub bytes: usize,
@@ -168,6 +168,7 @@ impl M25pe40 {
 }
 
 // What the part types share: each has a row of the table, and the figures of it as one value.
+// The figures are the type's own constant, the form that docs/DECISIONS.md names; `ROW` ties each to its row in specs/Parts.
 pub trait Part {
     const ROW: Figures;
 

@@ -16,7 +16,7 @@ pub struct Levels {
 }
 
 impl Levels {
-    // Bit 0 Chip Select, 1 clock, 2 data in, 3 W, 4 Hold.
+    // Bit 0 Chip Select, 1 clock, 2 data in, 3 W, 4 Hold. By `of`, as `Figures::of` and `Item::of`: it reads five of the eight bits.
     pub(crate) fn of(sample: u8) -> Self
         ensures { result ≡ levels_of sample }
     {

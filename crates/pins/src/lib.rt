@@ -87,7 +87,7 @@ struct Tally {
     missing: u32,
 }
 
-// Carries out the transaction under way, if it ends with this sample; `pins` are those before it.
+// Carries out the transaction under way, if it ends with this sample; `pins` are those before it. Seven parameters, as `ended_with` has them.
 #[tactic(auto, unfolding(crate::specs::Counted::ended_with, crate::specs::Counted::missed_with))]
 fn carry_out(
     device: Device,
@@ -130,6 +130,7 @@ fn carry_all(
     let mut missing = 0;
     let mut pins = Kept::rest();
     let mut under = Underway::none();
+    // the output by the index: a `zip` with `output.iter_mut()` leaves nothing known of it
     for (i, sample) in samples.iter().enumerate() {
         let levels = Levels::of(*sample);
         if pins.changes(levels) {

@@ -29,7 +29,7 @@ fn shift_in(register: u32, bit: bool) -> u32
 // An output byte that shows no bit.
 const NOTHING: u8 = 2;
 
-// Bit 7 - k of a driven byte.
+// Bit 7 - k of a driven byte. That pulses are fewer than 8 is a clause here and below: `none_yet`, `shown_on` and `Taken` build and read the plain record.
 fn bit_now(driven: Option<u8>, k: u32) -> Option<bool>
     requires { k < 8 }
     ensures { result ≡ bit_now driven k }

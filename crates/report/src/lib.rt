@@ -96,6 +96,7 @@ fn foresee_all(device: Device, array: usize, items: &[u8]) -> [u64; TOTALS]
 fn exceeding(counts: &[u64; TOTALS], held: &[u8]) -> bool
     ensures { result ≡ exceeds (λ i. get_or counts.now i 0) held.now }
 {
+    // by the place: past the end of `held` the totals are 0, as `exceeds` has it
     for (i, n) in counts.iter().enumerate() {
         if u64::MAX - slices::long_at(held, 8 * i) < *n {
             return true;
@@ -109,6 +110,7 @@ fn add_all(counts: &[u64; TOTALS], held: &mut [u8])
     requires { exceeds (λ i. get_or counts.now i 0) held.old ≡ false }
     ensures { held.new ≡ added (λ i. get_or counts.now i 0) held.old }
 {
+    // by the place: what `chunks_exact_mut` lends out leaves nothing known of the slice
     for (i, n) in counts.iter().enumerate() {
         let at = 8 * i;
         let sum = slices::long_at(held, at) + *n;

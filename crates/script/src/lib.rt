@@ -9,7 +9,7 @@ ghost use Rattle.script.specs.Steps.{number_in, ticks_in, Prints};
 
 use slices::byte_at;
 
-// What a line asks.
+// What a line asks. `Malformed` is a command and no error: `meaning` and `Parsed`, of which the theorems speak, have it so.
 #[derive(Clone, Copy, Debug, PartialEq, Eq)]
 pub enum Command {
     Exchange { w: bool, pulses: u8, n: usize },
@@ -104,7 +104,7 @@ fn store(text: &[u8], out: &mut [u8])
     ensures { out.new ≡ map_at (get_or (pairs text.now)) out.old }
 {
     let n = (text.len() / 2).min(out.len());
-    // by the index of the pair: tried, a `zip` with `out.iter_mut()` leaves nothing known of `out`
+    // by the index of the pair: a `zip` with `out.iter_mut()` leaves nothing known of `out`
     for (i, byte) in out[..n].iter_mut().enumerate() {
         *byte = 16 * digit(text[2 * i]) + digit(text[2 * i + 1]);
     }
@@ -180,7 +180,6 @@ impl<'a> Text<'a> {
     }
 
     // The two hexadecimal digits of a byte.
-
     fn byte(&mut self, b: u8)
         ensures same { self.new.bytes.ghost_name ≡ self.old.bytes.ghost_name }
         ensures printed { Prints (hex_byte b) self.old self.new }
@@ -223,7 +222,7 @@ fn hex_digit(n: u8) -> u8
 }
 
 // The line that answers line `number`, from place `at` of `text` on, as far as there is room: the place past it.
-// Buffer and place stand by themselves here, as they did for its callers.
+// Buffer and place each by itself: `Printed`, which callers see, speaks of both.
 pub fn print_answer(number: u64, answer: u8, bytes: &[u8], text: &mut [u8], at: usize) -> usize
     ensures { Printed (answer_line number answer bytes.now) text.old at text.new result }
 {
@@ -237,7 +236,7 @@ pub fn print_answer(number: u64, answer: u8, bytes: &[u8], text: &mut [u8], at: 
     out.at
 }
 
-// The line that ends the output, from place `at` of `text` on, as far as there is room: the place past it.
+// The line that ends the output, from place `at` of `text` on, as far as there is room: the place past it. Buffer and place as above.
 pub fn print_end(lines: u64, text: &mut [u8], at: usize) -> usize
     ensures { Printed (end_line lines) text.old at text.new result }
 {

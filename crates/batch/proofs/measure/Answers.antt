@@ -1,5 +1,5 @@
 -- `batch::measure` meets its contract.
-use Rattle.std.proofs.Common.{arith}
+use Rattle.std.proofs.Common.{sym, ◌∙◌, arith}
 use Rattle.batch.proofs.Items.{measured-few, measured_next}
 use Rattle.batch.proofs.measure.Goals as goal
 
@@ -16,4 +16,4 @@ overflow_add-sizes-in-loop-item c =
     record { fits = omega (arith, c.well_formed) }
 
 pub loop-item-preserved : goal.loop-item-preserved
-loop-item-preserved c = (tt, tt, rw (c.good.ensures, c.room.ensures) (measured_next c.in-Some.item.now _ c.in-Some.ensures.steps c.loop-item.invariant.2))
+loop-item-preserved c = (tt, tt, rw c.room.ensures (measured_next c.in-Some.item.now _ c.in-Some.ensures.steps (sym c.good.ensures ∙ c.if-not-good.false) c.loop-item.invariant.2))

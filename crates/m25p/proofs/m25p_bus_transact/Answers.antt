@@ -6,7 +6,7 @@ use Rattle.m25p.proofs.m25p_bus_transact.Goals as goal
 pub returns-then-row-ne0 : goal.returns-then-row-ne0
 returns-then-row-ne0 c =
     let a = c.args in
-    turn_odd a.row.now a.array.now a.chip a.sent.now a.pulses a.w a.response.now c.if-row-ne0.true c.bare.ensures
+    turn_odd a.row.now a.array.now a.chip a.sent.now a.pulses a.w a.response.now c.if-row-ne0.true (rw c.into.ensures at c.bare.ensures)
 
 pub packed_answer-requires : goal.packed_answer-requires
 packed_answer-requires c =

@@ -6,7 +6,7 @@ use Rattle.m25p.proofs.m25p_bus_wait.Goals as goal
 pub returns-then-row-ne0 : goal.returns-then-row-ne0
 returns-then-row-ne0 c =
     let a = c.args in
-    wait-odd a.row.now a.array.now a.ticks c.if-row-ne0.true c.bare.ensures
+    wait-odd a.row.now a.array.now a.ticks c.if-row-ne0.true (rw c.into.ensures at c.bare.ensures)
 
 pub returns-then-done-ne0 : goal.returns-then-done-ne0
 returns-then-done-ne0 c =

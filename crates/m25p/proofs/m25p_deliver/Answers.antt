@@ -8,7 +8,7 @@ use Rattle.m25p.proofs.m25p_deliver.Goals as goal
 pub returns-then-packed-ne-LENGTH : goal.returns-then-packed-ne-LENGTH
 returns-then-packed-ne-LENGTH c =
     let a = c.args in
-    another-length a.packed.now a.part a.array.now _ _ _ _ c.if-packed-ne-LENGTH.true c.bare.ensures
+    another-length a.packed.now a.part a.array.now _ _ _ _ c.if-packed-ne-LENGTH.true (rw c.into.ensures at c.bare.ensures)
 
 pub returns : goal.returns
 returns c =
