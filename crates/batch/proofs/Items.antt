@@ -1,6 +1,6 @@
 -- Laws of the items: the next one as the code finds it, and what the first pass finds.
 -- Assumes nothing.
-use Rattle.std.proofs.Common.{◌≡◌, ℕ, zero, suc, ◌+◌, ◌/◌, ◌%◌, ◌<◌, ◌≤◌, min, max, Bool, true, false, cond, ◌&&◌, eqb, List, [], ◌∷◌, map, length, take, drop, refl, sym, ap, ◌∙◌, le_refl, arith, length-drop, length-take}
+use Rattle.std.proofs.Common.{◌≡◌, ℕ, zero, suc, ◌+◌, ◌/◌, ◌%◌, ◌<◌, ◌≤◌, min, max, Bool, true, false, cond, eqb, List, [], ◌∷◌, map, length, take, drop, refl, sym, ap, ◌∙◌, le_refl, arith, length-drop, length-take}
 use native.Mathlib.Nat.{zero-min, suc-min-suc}
 use lib.Seq.{take-nil, drop-nil}
 use Rattle.slices.specs.Bytes.{word_at}

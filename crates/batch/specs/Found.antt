@@ -8,7 +8,7 @@ use Rattle.batch.specs.declared.Sizes.{Sizes}
 use Rattle.batch.specs.declared.reading.Item.{Item}
 use Rattle.batch.specs.declared.reading.Item.TheVariants.{Transaction, Wait}
 use Rattle.batch.specs.declared.Tally.{Tally}
-use Rattle.batch.specs.Items.{items_of, all_good, events_of}
+use Rattle.batch.specs.Items.{events_of}
 use Rattle.batch.specs.Batch.{lines, numbers, room_for, wrapped}
 
 -- an item as the code reads it, as an event
