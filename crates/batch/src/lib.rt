@@ -105,7 +105,7 @@ fn carry_all(
     tally
 }
 
-// Whether a batch is carried out: else 6, 2, 9 or 10.
+// Whether a batch is carried out: else 6, 2, 9 or 10. Here as in `chip`, `device` and `pins` 6 and 2 stand in the check itself, as `batch_number` has them.
 #[tactic(auto, unfolding(crate::specs::Batch::batch_number))]
 pub fn accepts(
     device: Device,

@@ -272,7 +272,7 @@ pub fn m25p_bus_transact(
     packed_answer(answer)
 }
 
-// Every chip of a row waits `ticks`, each on its own bytes.
+// Every chip of a row waits `ticks`, each on its own bytes. It begins as the call above: for these lines a function of both would be no plainer.
 pub fn m25p_bus_wait(row: &mut [u8], array: &mut [u8], ticks: u32) -> u64
     ensures { BusWaitedC (bus_waited_c row.old array.old ticks) row.old result row.new array.new }
 {
