@@ -104,7 +104,7 @@ fn execute(
 }
 
 // One transaction: the bytes sent, the further pulses, and the level of W as Chip Select rises. No transaction changes a byte of the array: a cycle does, at its end.
-// The bytes, the pulses and W each by itself, here and below: `Transacted`, `Foreseen`, `Bused` and `Jobbed` take them so, and C hands them so.
+// The bytes, the pulses and W each by itself, here and below: `Transacted`, `Foreseen`, `bused` and `Jobbed` take them so, and C hands them so.
 #[tactic(auto, using(crate::proofs::Laws::executed_short), unfolding(crate::specs::Outcome::transacted, crate::specs::Outcome::outcome_of, crate::specs::Answers::verdict_of))]
 pub fn transact(
     device: Device,

@@ -92,7 +92,7 @@ impl<'a> Case<'a> {
         })
     }
 
-    // The same on other arrays.
+    // The same on other arrays. A new case, since a reference written into a field of a field is not covered by the check yet.
     pub(crate) fn with_arrays(self, a: &'a mut [u8], b: &'a mut [u8]) -> Self {
         Case {
             by_value: self.by_value.with_array(a),

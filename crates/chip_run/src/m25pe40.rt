@@ -2,7 +2,7 @@
 use crate::steps::case;
 use std::io;
 
-// A case on part 6.
+// A case on part 6: a short name for `case`.
 fn run(rt: &impl Print, name: &[u8], script: &[u8]) -> io::Result<()> {
     case::<524_288>(rt, name, 6, script)
 }

@@ -18,7 +18,7 @@ pub(crate) fn number(digits: &[u8]) -> u32 {
     digits.iter().fold(0, |n, c| (n << 4) | digit(*c))
 }
 
-// The same as a byte.
+// The same as a byte: what is above it is cut off.
 pub(crate) fn byte(digits: &[u8]) -> u8 {
     (number(digits) % 256) as u8
 }

@@ -43,7 +43,7 @@ fn bare(number: u8) -> u64
     packed_answer(Answer::bare(number))
 }
 
-// The record that packed bytes hold, or what answers where they hold none. Each call matches on it; those that are lent the array alone are one function, `timed`, and a closure that is lent three buffers more would be no plainer.
+// The record that packed bytes hold, or what answers where they hold none. Each call matches on it; those that are lent the array alone are one function, `timed`, and a closure that is lent one to three buffers more would be no plainer.
 fn opened(packed: &[u8]) -> Result<Device, u64>
     ensures { MatchResult result (λ d. ((unpack_of packed.now).answer ≡ 0) × (d ≡ (unpack_of packed.now).device)) (λ r. ((unpack_of packed.now).answer ≢ 0) × (r ≡ packed_answer (Outcome.bare (unpack_of packed.now).answer))) }
 {
