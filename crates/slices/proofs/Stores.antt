@@ -9,7 +9,7 @@ use native.Mathlib.Omega.{arith}
 use borrow.Author.Tests.{leb-true, leb-false, ltb-true, ltb-false, le-leb, lt-leb}
 use borrow.Rule.Slice.PartMut.{put_mid}
 use lib.Dec.{leb, ltb}
-use lib.ListN.{length, get_or, take, drop, length-append, length-drop, get_or-append, get_or-eq_default}
+use lib.ListN.{length, get_or, take, drop, replicate, length-append, length-drop, length-replicate, get_or-append, get_or-eq_default}
 use lib.Seq.{length-take-le, get_or-take, get_or-drop, get_or-append-add}
 use Rattle.slices.specs.Changed.{map_at, window, stored}
 use Rattle.slices.proofs.Choices.{cond_ind}
@@ -34,6 +34,13 @@ front-copied n src xs {ys} e p = map_is (get_or src) xs (ys ++ drop n xs) (simp 
         let y : i ≡ n + (i - n) = omega arith in
         ap (λ (m : ℕ). get_or (ys ++ drop n xs) m 0) z ∙ get_or-append-add ys (drop n xs) (i - n) 0
         ∙ get_or-drop n xs (i - n) 0 ∙ ap (λ (m : ℕ). get_or xs m 0) (sym y) ∙ sym (get_or-eq_default src _ (omega arith))
+
+-- as many bytes as there are places, read to them one by one
+pub first-read : (n : ℕ) (src : List ℕ) {ys : List ℕ} → n ≤ length src → ys ≡ take n src → ys ≡ map_at (get_or src) (replicate n 0)
+first-read n src {ys} h p = map_is (get_or src) (replicate n 0) ys (ap length p ∙ length-take-le n src h ∙ sym (length-replicate {A = ℕ} n 0)) (λ i lt. byte i (rw (length-replicate {A = ℕ} n 0) at lt))
+  where
+    byte : (i : ℕ) → i < n → get_or ys i 0 ≡ get_or src i (get_or (replicate n 0) i 0)
+    byte i k = rw p (get_or-take n src i 0 k ∙ get_d_any src i 0 _ (omega arith))
 
 -- the rest of a slice lent from a place on, or from its end where it is shorter, that came back with src copied to it
 pub stored-rest : (at start : ℕ) (src xs : List ℕ) {ys : List ℕ} → start ≡ min at (length xs) → ys ≡ map_at (get_or src) (take (length xs - start) (drop start xs))

@@ -31,6 +31,13 @@ module _ (at start : ℕ) (xs : List ℕ) (e : start ≡ min at (length xs)) whe
   pub word-rest : word_at rest 0 ≡ word_at xs at
   word-rest = rw (byte 0, add-zero at, byte 1, byte 2, byte 3)
 
+  pub long_rest : long_at rest 0 ≡ long_at xs at
+  long_rest =
+      let a : at + 4 + 1 ≡ at + 5 = omega arith in
+      let b : at + 4 + 2 ≡ at + 6 = omega arith in
+      let c : at + 4 + 3 ≡ at + 7 = omega arith in
+      rw (word-rest, byte 4, byte 5, byte 6, byte 7, a, b, c)
+
 -- read from a place on, or from the front of what is left there
 pub word-drop : (at : ℕ) (xs : List ℕ) → word_at xs at ≡ word_at (drop at xs) 0
 word-drop at xs = sym (rw (get_or-drop at xs 0 0, get_or-drop at xs 1 0, get_or-drop at xs 2 0, get_or-drop at xs 3 0, add-zero at))

@@ -37,8 +37,12 @@ pub fn after(s: &[u8], n: usize) -> &[u8]
 fn bytes_at<const N: usize>(s: &[u8], at: usize) -> [u8; N]
     ensures { result ≡ map_at (get_or (drop at s.now)) (replicate N 0) }
 {
+    let rest = after(s, at);
+    if let Some(bytes) = rest.first_chunk() {
+        return *bytes;
+    }
     let mut bytes = [0; N];
-    copy(&mut bytes, after(s, at));
+    copy(&mut bytes, rest);
     bytes
 }
 
@@ -69,8 +73,11 @@ pub fn fill(s: &mut [u8], v: u8)
 pub fn copy(out: &mut [u8], src: &[u8])
     ensures { out.new ≡ map_at (get_or src.now) out.old }
 {
+    // a loop: the compiler makes `memcpy` of it, and of `copy_from_slice` `memmove`, which the archive for C then asks for
     let n = out.len().min(src.len());
-    out[..n].copy_from_slice(&src[..n]);
+    for (i, byte) in src[..n].iter().enumerate() {
+        out[i] = *byte;
+    }
 }
 
 // `count` bytes from `from` on become `v`, as far as there are any.
