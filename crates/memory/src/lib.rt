@@ -68,12 +68,10 @@ fn named(address: usize, count: usize, i: usize) -> bool
 pub fn write_page(array: &mut [u8], address: usize, count: usize, slots: [u8; 256])
     ensures { array.new ≡ map_at (replaced address count slots) array.old }
 {
+    // the slot is taken before the test, so that the loop has no branch
     change_sector(array, 256, address, |i, x| {
-        if named(address, count, i) {
-            slots[i % 256]
-        } else {
-            x
-        }
+        let slot = slots[i % 256];
+        if named(address, count, i) { slot } else { x }
     });
 }
 

@@ -1,7 +1,7 @@
 -- Laws of the lines that are read.
 -- Assumes nothing.
 use mathlib.Core.Path.{◌≡◌, refl, sym, ap, ◌∙◌}
-use mathlib.Core.Bool.{Bool, true, false, cond, ◌&&◌, ◌||◌, and-false}
+use mathlib.Core.Bool.{Bool, true, false, cond, ◌&&◌, ◌||◌, and_assoc, and-false}
 use mathlib.Core.List.{List, [], ◌∷◌, ◌++◌}
 use Prim.Native.Nat.{ℕ, zero, suc, ◌+◌, ◌-◌, ◌*◌, ◌/◌, ◌%◌, ◌<◌, ◌≤◌}
 use native.Mathlib.Numerals.{add-one}
@@ -24,6 +24,11 @@ between_in a b x h g = rw (le-leb a x h, le-leb x b g)
 
 pub between-above : (a b x : ℕ) → b < x → leb a x && leb x b ≡ false
 between-above a b x h = rw (lt-leb x b h) (and-false (leb a x))
+
+-- one more character of a loop that tests each
+pub all-next : (base : ℕ) (xs : List ℕ) (i : ℕ) (b : Bool) → i < length xs
+    → (b && ltb (digit_of (get_or xs i 0)) base) && all_below base (drop (i + 1) xs) ≡ b && all_below base (drop i xs)
+all-next base xs i b h = rw (add-one, drop-cons xs i 0 h) (and_assoc b (ltb (digit_of (get_or xs i 0)) base) (all_below base (drop (suc i) xs)))
 
 -- a number only grows with more digits
 grows : (xs : List ℕ) (v : ℕ) → v ≤ number_from v xs

@@ -35,7 +35,12 @@ fn digit(b: u8) -> u8
 fn all_below(base: u8, text: &[u8]) -> bool
     ensures { result ≡ all_below base text.now }
 {
-    text.iter().all(|x| digit(*x) < base)
+    // every character is tested: a way out of the loop would cost a good line more than it spares a bad one
+    let mut all = true;
+    for x in text {
+        all = all & (digit(*x) < base);
+    }
+    all
 }
 
 // Whether a field is hexadecimal pairs, one at least.
