@@ -22,7 +22,9 @@ pub enum Verdict {
 }
 
 // Whether the host side takes a transaction: the refusals in their order, 6, 2, 3, 4, 5. Lengths and pulses each by itself, here and below, as `host_number` and `chip_number` have them.
+// Inlined, as `chip_accepts`: the record by value would be copied for each of the two.
 #[tactic(auto, unfolding(crate::specs::Answers::host_number))]
+#[inline(always)]
 pub fn host_accepts(
     device: Device,
     array: usize,
@@ -133,6 +135,7 @@ impl Row {
 
 // Whether the chip takes an instruction: what it ignores in its order, 11, 14, 12, 13, 15, 16, 17, 18, 19.
 #[tactic(auto, unfolding(crate::specs::Answers::chip_number))]
+#[inline(always)]
 fn chip_accepts(
     device: Device,
     row: Row,

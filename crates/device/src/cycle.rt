@@ -126,11 +126,12 @@ impl Uses {
     }
 }
 
-// Whether slots are zero where they are not used.
-fn slots_sound(slots: [u8; 256], used: bool) -> bool
-    ensures { result ≡ slots_sound slots used }
+// Whether slots are zero where they are not used. Lent, as the cycle to `sound`: they would be copied for a look at them.
+#[inline(always)]
+fn slots_sound(slots: &[u8; 256], used: bool) -> bool
+    ensures { result ≡ slots_sound slots.now used }
 {
-    used | (slots == [0; 256])
+    used | (*slots == [0; 256])
 }
 
 // Whether a number of bytes named is 1 to 256 where it is used, else 0.
@@ -218,15 +219,16 @@ impl Cycle {
     }
 
     // Whether it is there exactly while busy, is of a kind of the part, lies within it, and is zero but for what its kind uses.
-    pub(crate) fn sound(self, figures: Figures, busy: bool) -> bool
-        ensures { result ≡ cycle_sound self figures busy }
+    #[inline(always)]
+    pub(crate) fn sound(&self, figures: Figures, busy: bool) -> bool
+        ensures { result ≡ cycle_sound self.now figures busy }
     {
         let uses = Uses::of(self.kind);
         busy == uses.cycle
             && (self.address as usize) < figures.bytes
             && self.bp <= figures.highest_bp
             && (uses.address || self.address == 0)
-            && slots_sound(self.slots, uses.slots)
+            && slots_sound(&self.slots, uses.slots)
             && (uses.settings || (self.bp == 0 && !self.srwd))
             && named_sound(self.named, uses.named)
             && (!uses.pe || figures.pe)

@@ -199,7 +199,8 @@ impl Device {
         }
     }
 
-    // Whether the record is sound.
+    // Whether the record is sound. Inlined, here and below, where a record by value would be copied for a look at it.
+    #[inline(always)]
     pub fn sound(self) -> bool
         ensures { result ≡ sound self }
     {

@@ -1,9 +1,9 @@
 // The record packed in bytes, and read back.
-ghost use Rattle.std.specs.Prelude.{◌≡◌, ◌&&◌, ◌++◌, ◌+◌, ◌≤◌, take, drop, IfOk};
+ghost use Rattle.std.specs.Prelude.{◌≡◌, ◌&&◌, ◌++◌, ◌+◌, ◌≤◌, take, drop};
 ghost use Rattle.refusals.specs.Numbers.{answer_of};
 ghost use Rattle.slices.specs.Bytes.{same_bytes, word};
 ghost use Rattle.slices.specs.Changed.{map_at, stored};
-ghost use Rattle.device.specs.Packing.{packed_length, front_length, named_place, mode_number, ticks_of, mode_of, head_of, cycle_head, front_of, pack_of, cycle_at, fields_of, pack_answer, Packed, unpack_answer, unpack_of};
+ghost use Rattle.device.specs.Packing.{packed_length, front_length, named_place, mode_number, ticks_of, mode_of, head_of, cycle_head, front_of, pack_of, cycle_at, fields_of, pack_answer, Packed, unpack_of};
 
 use crate::cycle::{Cycle, Kind};
 use crate::locks::REGISTERS;
@@ -181,28 +181,21 @@ pub fn pack(d: Device, out: &mut [u8]) -> u8
     0
 }
 
-// The record that bytes are the packing of: 8 where they are not `LENGTH`, 6 where they are not the packing of a sound record.
-fn read(packed: &[u8]) -> Result<Device, Refusal>
-    ensures answer { answer_of result ≡ unpack_answer packed.now }
-    ensures device { IfOk result (λ d. d ≡ fields_of packed.now) }
-{
-    let Ok(b) = <&[u8; LENGTH]>::try_from(packed) else {
-        return Err(Refusal::PackedLength);
-    };
-    let d = fields(b);
-    if agrees(d, b) && d.sound() {
-        Ok(d)
-    } else {
-        Err(Refusal::NotSound)
-    }
-}
-
 // Unpacks a record: 8 where there are not `LENGTH` bytes, 6 where they are not the packing of a sound record, with the all-zero record; else 0.
 pub fn unpack(packed: &[u8]) -> Checked
     ensures { result ≡ unpack_of packed.now }
 {
-    match read(packed) {
-        Ok(device) => Checked { answer: 0, device },
-        Err(refusal) => Checked::refused(refusal, Device::zero()),
+    let Ok(b) = <&[u8; LENGTH]>::try_from(packed) else {
+        return Checked::refused(Refusal::PackedLength, Device::zero());
+    };
+    // not a `Result` on the way: the record would be copied once more
+    let d = fields(b);
+    if agrees(d, b) && d.sound() {
+        Checked {
+            answer: 0,
+            device: d,
+        }
+    } else {
+        Checked::refused(Refusal::NotSound, Device::zero())
     }
 }

@@ -52,6 +52,7 @@ impl Device {
     }
 
     // Whether a call that is lent `array` bytes may be carried out: 6 where the record is not sound, 2 where the array does not have the part's bytes.
+    #[inline(always)]
     fn accepts(self, array: usize) -> Result<(), Refusal>
         ensures { answer_of result ≡ time_number self array 0 }
     {
@@ -65,6 +66,7 @@ impl Device {
     }
 
     // The same of a power loss with a mask of `mask` bytes: 41 where they are not 256.
+    #[inline(always)]
     fn accepts_mask(self, array: usize, mask: usize) -> Result<(), Refusal>
         ensures { answer_of result ≡ time_number self array (mask_number mask) }
     {

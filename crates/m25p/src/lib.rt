@@ -1,11 +1,11 @@
 // What the C calls do: delivery, transaction, wait, power-up, power loss, raw pins, a batch and a report over the packed bytes of a record; images; and a bus over the packed bytes of a row of records.
 #![tactic(auto)]
 
-ghost use Rattle.std.specs.Prelude.{◌≡◌, ◌≢◌, ◌≤◌, ◌<◌, MatchResult};
+ghost use Rattle.std.specs.Prelude.{◌≡◌, ◌≤◌, ◌<◌};
 ghost use Rattle.memory.specs.Missing.{most_missing};
 ghost use Rattle.slices.specs.Chosen.{on_zero};
 ghost use Rattle.slices.specs.Changed.{map_at, stored};
-ghost use Rattle.device.specs.Packing.{pack_of, unpack_of};
+ghost use Rattle.device.specs.Packing.{pack_of};
 ghost use Rattle.device.specs.Chip.{Chip};
 ghost use Rattle.device.specs.Time.{Timed, wait_call, power_up_call, loss_call};
 ghost use Rattle.m25p.specs.Calls.{packed_answer, transacted_c, Called, high, Does, Keeps, timed_c, CalledOn, DeliveredC};
@@ -41,19 +41,6 @@ fn bare(number: u8) -> u64
     ensures { result ≡ packed_answer (Outcome.bare number) }
 {
     packed_answer(Answer::bare(number))
-}
-
-// The record that packed bytes hold, or what answers where they hold none. Each call matches on it; those that are lent the array alone are one function, `timed`, and a closure that is lent one to three buffers more would be no plainer.
-fn opened(packed: &[u8]) -> Result<Device, u64>
-    ensures { MatchResult result (λ d. ((unpack_of packed.now).answer ≡ 0) × (d ≡ (unpack_of packed.now).device)) (λ r. ((unpack_of packed.now).answer ≢ 0) × (r ≡ packed_answer (Outcome.bare (unpack_of packed.now).answer))) }
-{
-    // by its number: `unpack_of`, of which the theorems speak, gives it so
-    let came = unpack(packed);
-    if came.answer == 0 {
-        Ok(came.device)
-    } else {
-        Err(bare(came.answer))
-    }
 }
 
 // The next record is written over the packed bytes where the answer is 0.
@@ -104,6 +91,7 @@ pub fn m25p_deliver(
 }
 
 // One transaction: W is low for 0, else high.
+// Each call on one record begins so, and not by a `Result` of the record, which would be copied on the way; those that are lent the array alone are one function, `timed`, and a closure that is lent one to three buffers more would be no plainer.
 pub fn m25p_transact(
     packed: &mut [u8],
     array: &mut [u8],
@@ -114,13 +102,14 @@ pub fn m25p_transact(
 ) -> u64
     ensures { Called (transacted_c packed.old array.old sent.now pulses w response.old) packed.old result packed.new array.new response.new }
 {
-    match opened(packed) {
-        Ok(device) => carried(
-            chip::transact(device, array, sent, pulses, w != 0, response),
-            packed,
-        ),
-        Err(answer) => answer,
+    let came = unpack(packed);
+    if came.answer != 0 {
+        return bare(came.answer);
     }
+    carried(
+        chip::transact(came.device, array, sent, pulses, w != 0, response),
+        packed,
+    )
 }
 
 // A call on the record and the array: refused where the packed bytes are of no sound record, and the next record is stored where it answers 0.
@@ -132,10 +121,11 @@ fn timed<F: FnOnce(Device, &mut [u8]) -> Checked>(
     requires { F.IsAlwaysCallable call }
     ensures { (meant : Chip → Timed) → Does F.FnOnce call meant → Keeps meant → CalledOn (timed_c meant packed.old array.old) packed.old result packed.new array.new }
 {
-    match opened(packed) {
-        Ok(device) => checked(call(device, array), packed),
-        Err(answer) => answer,
+    let came = unpack(packed);
+    if came.answer != 0 {
+        return bare(came.answer);
     }
+    checked(call(came.device, array), packed)
 }
 
 // Waits `ticks`: on the last tick of a cycle its effect comes.
@@ -167,10 +157,11 @@ pub fn m25p_loss(packed: &mut [u8], array: &mut [u8], mask: &[u8], yes: u32) -> 
 pub fn m25p_pins(packed: &mut [u8], array: &mut [u8], samples: &[u8], output: &mut [u8]) -> u64
     ensures { RanC packed.old array.old samples.now output.old result packed.new array.new output.new }
 {
-    match opened(packed) {
-        Ok(device) => carried(pins::run(device, array, samples, output), packed),
-        Err(answer) => answer,
+    let came = unpack(packed);
+    if came.answer != 0 {
+        return bare(came.answer);
     }
+    carried(pins::run(came.device, array, samples, output), packed)
 }
 
 // A batch: its items carried out in order, or nothing at all.
@@ -184,13 +175,14 @@ pub fn m25p_batch(
 ) -> u64
     ensures { BatchedC packed.old array.old items.now responses.old answers.old missing.old result packed.new array.new responses.new answers.new missing.new }
 {
-    match opened(packed) {
-        Ok(device) => checked(
-            batch::run(device, array, items, responses, answers, missing),
-            packed,
-        ),
-        Err(answer) => answer,
+    let came = unpack(packed);
+    if came.answer != 0 {
+        return bare(came.answer);
     }
+    checked(
+        batch::run(came.device, array, items, responses, answers, missing),
+        packed,
+    )
 }
 
 // A report: a batch carried out and counted, or nothing at all.
@@ -204,13 +196,14 @@ pub fn m25p_report(
 ) -> u64
     ensures { ReportedC packed.old array.old items.now responses.old answers.old totals.old result packed.new array.new responses.new answers.new totals.new }
 {
-    match opened(packed) {
-        Ok(device) => checked(
-            report::run(device, array, items, responses, answers, totals),
-            packed,
-        ),
-        Err(answer) => answer,
+    let came = unpack(packed);
+    if came.answer != 0 {
+        return bare(came.answer);
     }
+    checked(
+        report::run(came.device, array, items, responses, answers, totals),
+        packed,
+    )
 }
 
 // An answer with a number of blocks where a transaction has its driven count.

@@ -1,17 +1,13 @@
 -- `m25p::m25p_batch` meets its contract.
-use Rattle.std.proofs.Common.{refl}
 use Rattle.m25p.proofs.Batch.{refused, carried}
 use Rattle.m25p.proofs.m25p_batch.Goals as goal
 
-pub returns-in-Ok : goal.returns-in-Ok
-returns-in-Ok c =
+pub returns-then-came-ne0 : goal.returns-then-came-ne0
+returns-then-came-ne0 c =
     let a = c.args in
-    let o = c.in-Ok.ensures in
-    let m = rw o.1 at c.run.ensures in
-    carried a.packed.now a.array.now a.items.now a.responses.now a.answers.now a.missing.now refl o.0 m c.checked.ensures.bytes c.checked.ensures.number
+    refused a.packed.now a.array.now a.items.now a.responses.now a.answers.now a.missing.now c.unpack-came.ensures c.if-came-ne0.true c.bare.ensures
 
-pub returns-in-Err : goal.returns-in-Err
-returns-in-Err c =
+pub returns : goal.returns
+returns c =
     let a = c.args in
-    let o = c.in-Err.ensures in
-    refused a.packed.now a.array.now a.items.now a.responses.now a.answers.now a.missing.now refl o.0 o.1
+    carried a.packed.now a.array.now a.items.now a.responses.now a.answers.now a.missing.now c.unpack-came.ensures c.if-came-ne0.false c.run.ensures c.checked.ensures.bytes c.checked.ensures.number
