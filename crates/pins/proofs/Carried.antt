@@ -20,6 +20,7 @@ use Rattle.chip.proofs.Lines.{driven-before, heard-laws}
 use Rattle.chip.proofs.Events.{sent-room, missed-append}
 use Rattle.chip.proofs.Missed.{is_sent, missed-few}
 use Rattle.pins.specs.declared.levels.Levels.{Levels}
+use Rattle.pins.specs.declared.underway.Bit.TheVariants.{Low, High}
 use Rattle.pins.specs.declared.underway.Underway.{Underway}
 use Rattle.pins.specs.Pins.{levels_of, Pins, changes, ends, takes, moves, Transaction, Shown, nothing, after, Taking, anew, shifted, bit_taken, moved_on, clocked, next_taking, next_found, Seen, step, seen}
 use Rattle.pins.specs.Run.{Chip, carried_out, events_of, carried_all, chip_after, missed_in, bit_in, bit_shown}
@@ -128,10 +129,10 @@ unfolding underway_of none_yet anew
 none-yet c = rw (driven-first c.device c.array)
 
 -- the level of a bit is the bit
-two : (n : ℕ) → cond (eqb (n % 2) 1) 1 0 ≡ n % 2
+two : (n : ℕ) → level (cond (eqb (n % 2) 1) High Low) ≡ n % 2
 two n = let h : n % 2 < 2 = omega arith in go (eqb (n % 2) 1) refl
   where
-    go : (b : Bool) → eqb (n % 2) 1 ≡ b → cond b 1 0 ≡ n % 2
+    go : (b : Bool) → eqb (n % 2) 1 ≡ b → level (cond b High Low) ≡ n % 2
     go true e = let z = eqb-true (n % 2) 1 e in omega arith
     go false e = let z = eqb-false (n % 2) 1 e in omega arith
 

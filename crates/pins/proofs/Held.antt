@@ -13,6 +13,8 @@ use Rattle.slices.proofs.Choices.{cond_ind}
 use Rattle.slices.proofs.Windows.{window-start, loop-step}
 use Rattle.memory.specs.Missing.{most_missing}
 use Rattle.device.specs.declared.Device.{Device}
+use Rattle.chip.specs.Outcome.{transacted}
+use Rattle.chip.specs.Events.{left}
 use Rattle.pins.specs.declared.Tally.{Tally}
 use Rattle.pins.specs.declared.levels.Kept.{Kept}
 use Rattle.pins.specs.declared.levels.Levels.{Levels}
@@ -120,6 +122,20 @@ module _ (d : Device) (a samples o : List ℕ) (i : ℕ) (lt : i < length sample
       let k : ◌≡◌ {A = Chip} (record { device = r.device; array = array' }) (ended_with (record { device = device; array = array }) p now (take u.whole sent) u.pulses response) = rw (q.device, q.memory) in
       let c : changes x.pins now ≡ true = rw (← pins-are) e in
       record { chip = k ∙ g; under = n ∙ (rw c (none-yet (chip_after d a (take (i + 1) samples)))); missed = missed_more response room q }
+
+  -- Select rises outside a hold: what carrying out promises is what the code hands to the transaction that ends
+  pub ended-now : {r : Tally} {array' : List ℕ} (response : List ℕ) → ends p now ≡ true
+      → CarriedOut (left (transacted device array (take u.whole sent) u.pulses now.w response)) (transacted device array (take u.whole sent) u.pulses now.w response).answer.missing r array' → Ended response r array'
+  unfolding ended_with missed_with
+  ended-now response e q = rw e q
+
+  ended-not : (response : List ℕ) → ends p now ≡ false → Ended response (record { device = device; missing = 0 }) array
+  unfolding ended_with missed_with
+  ended-not response e = rw e (record { device = refl; memory = refl; missing = refl })
+
+  -- Select changes, and no transaction ends
+  pub begun-thrown : {u' : Underway} (response : List ℕ) → 65536 ≤ length response → changes p now ≡ true → ends p now ≡ false → u' ≡ none_yet → Begun d a samples i now array device missing u'
+  begun-thrown response room e f n = rw (add-zero missing) at (begun-anew response room e (ended-not response f) n)
 
   -- Select stays
   pub begun-same : changes p now ≡ false → Begun d a samples i now array device missing u

@@ -9,14 +9,29 @@ use native.Mathlib.Omega.{arith}
 use borrow.Author.Tests.{eqb-true, eqb-false, ltb-true, ltb-false, le-leb, lt-leb}
 use lib.Dec.{eqb, ltb, leb, lit<, lit≤}
 use lib.ListN.{length, get_or, take, drop, length-append, take-append-drop}
-use lib.Seq.{take-suc}
+use lib.Seq.{drop-cons, take-suc}
 use Rattle.std.specs.List.{list_any}
 use Rattle.slices.proofs.Choices.{cond_ind, cond-case}
 use Rattle.pins.specs.declared.levels.Levels.{Levels}
-use Rattle.pins.specs.Pins.{levels_of, Pins, rest, on_select, next_pins, changes, takes, moves, Taking, anew, shifted, bit_taken, moved_on, clocked, next_taking, Seen, at_rest, step, seen_from, seen, too_long, odd_from, odd_samples}
-use Rattle.pins.specs.Counted.{bits_taken, next_count}
+use Rattle.pins.specs.Pins.{levels_of, Pins, rest, on_select, on_clock, on_hold, next_pins, changes, takes, moves, Taking, anew, shifted, bit_taken, moved_on, clocked, next_taking, Seen, at_rest, step, seen_from, seen, too_long, odd_from, odd_samples}
+use Rattle.pins.specs.declared.levels.Kept.{Kept}
+use Rattle.pins.specs.Counted.{pins_of, pins_after, bits_taken, next_count}
 
 -- ---- one sample more
+
+-- 25 has Select, W and Hold high: before the first sample the pins are as after it
+pub kept-rest : pins_after 25 false ≡ rest
+unfolding pins_after levels_of rest
+kept-rest = refl
+
+-- of the pins after a sample, that byte and whether there is a hold say all
+pub kept-after : (k : Kept) (q : Pins) (s : ℕ) {now : Levels} → q.select ≡ now.select → pins_of k ≡ on_hold (on_clock q now) now → now ≡ levels_of s → pins_after s k.holding ≡ pins_of k
+unfolding pins_after pins_of on_hold on_clock
+kept-after k q s {now} t e n =
+    let a = ap (λ (p : Pins). p.select) e in
+    let b = ap (λ (p : Pins). p.clock) e in
+    let d = ap (λ (p : Pins). p.hold) e in
+    rw (a, b, d, t, ← n) refl
 
 pub from-append : (x : Seen) (xs ys : List ℕ) → seen_from x (xs ++ ys) ≡ seen_from (seen_from x xs) ys
 from-append x [] ys = refl
@@ -49,6 +64,26 @@ same-level false false e = (refl, refl)
 pub unchanged : (p : Pins) (now : Levels) → changes p now ≡ false → (takes (on_select p now) now ≡ takes p now) × (moves (on_select p now) now ≡ moves p now)
 unfolding changes on_select takes moves
 unchanged p now h = let e = same-level p.select now.select h in (rw (e.1, e.0), rw (e.1, e.0))
+
+-- where Select stays, nothing is to be taken
+pub stays : (p : Pins) (now : Levels) → changes p now ≡ false → p ≡ on_select p now
+unfolding changes on_select
+stays p now h = let e = same-level p.select now.select h in rw (e.1, e.0)
+
+-- with Select taken it is as in the sample
+pub select-taken : (k : Kept) (q : Pins) (now : Levels) → pins_of k ≡ on_select q now → pins_of (record { select = now.select; clock = k.clock; hold = k.hold; holding = k.holding }) ≡ on_select q now
+unfolding pins_of on_select
+select-taken k q now e = λ j. record { select = now.select; clock = (e j).clock; hold = (e j).hold; holding = (e j).holding }
+
+aside : (s h a : Bool) → s || h ≡ true → not s && not h && a ≡ false
+aside true h a e = refl
+aside false true a e = refl
+aside false false a e = absurd (false≢true e)
+
+-- with Select high, or in a hold, the clock does nothing
+pub clock-aside : (k : Kept) (now : Levels) → k.select || k.holding ≡ true → (takes (pins_of k) now ≡ false) × (moves (pins_of k) now ≡ false)
+unfolding pins_of takes moves
+clock-aside k now e = (aside k.select k.holding (not k.clock && now.clock) e, aside k.select k.holding (k.clock && not now.clock) e)
 
 exclusive : (s h a b : Bool) → s && h && (a && not b) ≡ true → s && h && (not a && b) ≡ false
 exclusive true true true true e = refl
@@ -146,7 +181,10 @@ short samples i h =
     (λ x now p e. ltb-false 65536 (length (next_taking x.pins now x.taking).sent) (neither x.long (ltb 65536 (length (next_taking x.pins now x.taking).sent)) e).1) (take i samples)
     (long-stays (seen (take i samples)) (drop i samples) (ap (λ (x : Seen). x.long) (sym (from-append at_rest (take i samples) (drop i samples)) ∙ ap (λ (xs : List ℕ). seen_from at_rest xs) (take-append-drop i samples)) ∙ h))
 
--- the test of bits 5 to 7
+-- the test of bits 5 to 7, one sample more
+pub odd-next : (odd : Bool) (samples : List ℕ) (i : ℕ) → i < length samples → odd_from odd (drop i samples) ≡ odd_from (odd || leb 32 (get_or samples i 0)) (drop (i + 1) samples)
+odd-next odd samples i h = rw (drop-cons samples i 0 h, add-one i)
+
 odd-or : (odd : Bool) (samples : List ℕ) → odd_from odd samples ≡ odd || list_any (leb 32) samples
 odd-or true [] = refl
 odd-or false [] = refl

@@ -8,8 +8,10 @@ use Rattle.chip.specs.Outcome.{transacted}
 use Rattle.chip.specs.Events.{left}
 use Rattle.pins.specs.declared.levels.Kept.{Kept}
 use Rattle.pins.specs.declared.levels.Levels.{Levels}
+use Rattle.pins.specs.declared.underway.Bit.{Bit}
+use Rattle.pins.specs.declared.underway.Bit.TheVariants.{Low, High, Nothing}
 use Rattle.pins.specs.declared.underway.Underway.{Underway}
-use Rattle.pins.specs.Pins.{Pins, on_select, changes, takes, moves, ends, shifted, Shown, nothing, after, Taking}
+use Rattle.pins.specs.Pins.{levels_of, Pins, on_select, changes, takes, moves, ends, shifted, Shown, nothing, after, Taking}
 use Rattle.pins.specs.declared.Tally.{Tally}
 use Rattle.pins.specs.Run.{Chip, chip_after, missed_in, output_at}
 
@@ -18,6 +20,10 @@ use Rattle.pins.specs.Run.{Chip, chip_after, missed_in, output_at}
 -- those that the code keeps from sample to sample
 unfoldable pub pins_of : Kept → Pins
 pins_of k = record { select = k.select; clock = k.clock; hold = k.hold; holding = k.holding }
+
+-- those after a sample, with whether there is a hold after it
+unfoldable pub pins_after : ℕ → Bool → Pins
+pins_after s holding = record { select = (levels_of s).select; clock = (levels_of s).clock; hold = (levels_of s).hold; holding = holding }
 
 -- ---- the bits taken
 
@@ -31,19 +37,20 @@ next_count n p now = cond (takes (on_select p now) now) (cond (changes p now) 0 
 
 -- ---- the transaction under way
 
--- bit 7 - k of a driven byte, as its level
-abbrev pub bit_now : Option ℕ → ℕ → Option Bool
-bit_now None k = None
-bit_now (Some byte) k = Some (eqb (byte / 2 ^ (7 - k) % 2) 1)
+-- bit 7 - k of a driven byte, as the code holds it
+abbrev pub bit_now : Option ℕ → ℕ → Bit
+bit_now None k = Nothing
+bit_now (Some byte) k = cond (eqb (byte / 2 ^ (7 - k) % 2) 1) High Low
 
 -- the output byte of a bit: 2 where none shows
-abbrev pub level : Option Bool → ℕ
-level None = 2
-level (Some bit) = cond bit 1 0
+abbrev pub level : Bit → ℕ
+level Low = 0
+level High = 1
+level Nothing = 2
 
 -- the bit that is shown, as the code holds it
-abbrev pub bit_held : Chip → Shown → Option Bool
-bit_held c nothing = None
+abbrev pub bit_held : Chip → Shown → Bit
+bit_held c nothing = Nothing
 bit_held c (after sent k) = bit_now (line_byte (driven c.device c.array sent)) k
 
 unfoldable pub underway_of : Chip → Taking → Underway
@@ -58,7 +65,7 @@ underway_of c t =
 
 -- no bit taken, nothing driven
 unfoldable pub none_yet : Underway
-none_yet = record { whole = 0; pulses = 0; register = 0; driven = None; bit = None }
+none_yet = record { whole = 0; pulses = 0; register = 0; driven = None; bit = Nothing }
 
 -- the output moves on
 unfoldable pub shown_on : Underway → Underway

@@ -1,9 +1,9 @@
 // The pins: their levels in a sample, and what happens from one sample to the next.
-#![tactic(auto, unfolding(crate::specs::Pins::levels_of, crate::specs::Pins::rest, crate::specs::Pins::on_select, crate::specs::Pins::on_clock, crate::specs::Pins::on_hold, crate::specs::Pins::changes, crate::specs::Pins::takes, crate::specs::Pins::moves, crate::specs::Pins::ends, crate::specs::Counted::pins_of))]
+#![tactic(auto, unfolding(crate::specs::Pins::levels_of, crate::specs::Pins::on_select, crate::specs::Pins::on_clock, crate::specs::Pins::on_hold, crate::specs::Pins::changes, crate::specs::Pins::takes, crate::specs::Pins::moves, crate::specs::Pins::ends, crate::specs::Counted::pins_of, crate::specs::Counted::pins_after))]
 
 ghost use Rattle.std.specs.Prelude.{◌≡◌};
-ghost use Rattle.pins.specs.Pins.{levels_of, rest, on_select, on_clock, on_hold, changes, takes, moves, ends};
-ghost use Rattle.pins.specs.Counted.{pins_of};
+ghost use Rattle.pins.specs.Pins.{levels_of, on_select, on_clock, on_hold, changes, takes, moves, ends};
+ghost use Rattle.pins.specs.Counted.{pins_of, pins_after};
 
 // The five levels of a sample.
 #[derive(Clone, Copy, Debug, PartialEq, Eq)]
@@ -41,15 +41,16 @@ pub struct Kept {
 
 // `now` are the levels in this sample.
 impl Kept {
-    // Before the first sample Chip Select and Hold are high, the clock low.
-    pub(crate) fn rest() -> Self
-        ensures { pins_of result ≡ rest }
+    // After a sample, with whether there is a hold after it.
+    pub(crate) fn after(sample: u8, holding: bool) -> Self
+        ensures { pins_of result ≡ pins_after sample holding }
     {
+        let was = Levels::of(sample);
         Kept {
-            select: true,
-            clock: false,
-            hold: true,
-            holding: false,
+            select: was.select,
+            clock: was.clock,
+            hold: was.hold,
+            holding,
         }
     }
 

@@ -6,7 +6,9 @@ ghost use Rattle.refusals.specs.Numbers.{answer_of};
 ghost use Rattle.chip.specs.Table.{longest};
 ghost use Rattle.pins.specs.Pins.{odd_samples, too_long};
 ghost use Rattle.pins.specs.Run.{run_answer, Ran};
-ghost use Rattle.pins.specs.Counted.{pins_of, next_count, ended_with, missed_with, CarriedOut, CarriedAll};
+ghost use Rattle.chip.specs.Outcome.{transacted};
+ghost use Rattle.chip.specs.Events.{left};
+ghost use Rattle.pins.specs.Counted.{pins_of, next_count, CarriedOut, CarriedAll};
 
 mod levels;
 mod underway;
@@ -18,6 +20,9 @@ use parts::Figures;
 use refusals::Refusal;
 use underway::Underway;
 
+// Before the first sample Chip Select, W and Hold are high, the others low.
+const REST: u8 = 25;
+
 // The bits of 65,537 whole bytes.
 const LONG: usize = 524_296;
 
@@ -25,7 +30,11 @@ const LONG: usize = 524_296;
 fn odd_samples(samples: &[u8]) -> bool
     ensures { result ≡ odd_samples samples.now }
 {
-    samples.iter().any(|sample| 32 <= *sample)
+    let mut odd = false;
+    for sample in samples {
+        odd = odd | (32 <= *sample);
+    }
+    odd
 }
 
 // The bits of the transaction under way, after a sample; `pins` are those before it.
@@ -45,14 +54,18 @@ fn next_count(count: usize, pins: Kept, levels: Levels) -> usize
 fn too_long(samples: &[u8]) -> bool
     ensures { result ≡ too_long samples.now }
 {
-    let mut pins = Kept::rest();
+    let mut before = REST;
+    let mut holding = false;
     let mut count = 0;
     let mut long = false;
     for sample in samples {
+        let pins = Kept::after(before, holding);
         let levels = Levels::of(*sample);
         count = next_count(count, pins, levels);
         long = long | (LONG <= count);
-        pins = pins.on_select(levels).on_hold(levels);
+        let next = pins.on_select(levels).on_hold(levels);
+        holding = next.holding;
+        before = *sample;
     }
     long
 }
@@ -87,34 +100,30 @@ struct Tally {
     missing: u32,
 }
 
-// Carries out the transaction under way, if it ends with this sample; `pins` are those before it. Seven parameters, as `ended_with` has them.
-#[tactic(auto, unfolding(crate::specs::Counted::ended_with, crate::specs::Counted::missed_with))]
+// Carries out the transaction under way, which ends with this sample.
 fn carry_out(
     device: Device,
     array: &mut [u8],
-    pins: Kept,
     levels: Levels,
     under: Underway,
     sent: &[u8],
     response: &mut [u8],
 ) -> Tally
     requires { under.whole ≤ length sent.now }
-    ensures { CarriedOut (ended_with (record { device = device; array = array.old }) (pins_of pins) levels (take under.whole sent.now) under.pulses response.old) (missed_with (record { device = device; array = array.old }) (pins_of pins) levels (take under.whole sent.now) under.pulses response.old) result array.new }
+    ensures { CarriedOut (left (transacted device array.old (take under.whole sent.now) under.pulses levels.w response.old)) (transacted device array.old (take under.whole sent.now) under.pulses levels.w response.old).answer.missing result array.new }
 {
-    if pins.ends(levels) {
-        let n = under.whole;
-        let done = chip::transact(device, array, &sent[..n], under.pulses, levels.w, response);
-        let answer = done.answer;
-        let device = done.device;
-        return Tally {
-            device,
-            missing: answer.missing,
-        };
+    let n = under.whole;
+    let done = chip::transact(device, array, &sent[..n], under.pulses, levels.w, response);
+    let answer = done.answer;
+    let device = done.device;
+    Tally {
+        device,
+        missing: answer.missing,
     }
-    Tally { device, missing: 0 }
 }
 
-// Carries out the transactions in order, adds up the bits missing, and writes the output.
+// Carries out the transactions in order, adds up the bits missing, and writes the output. Never inlined: amid what its caller holds, the loop would have too few registers.
+#[inline(never)]
 fn carry_all(
     device: Device,
     array: &mut [u8],
@@ -128,21 +137,31 @@ fn carry_all(
 {
     let mut device = device;
     let mut missing = 0;
-    let mut pins = Kept::rest();
+    // the sample before and not the pins: one byte from sample to sample, as in `too_long`
+    let mut before = REST;
+    let mut holding = false;
     let mut under = Underway::none();
     // the output by the index: a `zip` with `output.iter_mut()` leaves nothing known of it
     for (i, sample) in samples.iter().enumerate() {
+        let mut pins = Kept::after(before, holding);
         let levels = Levels::of(*sample);
         if pins.changes(levels) {
-            let done = carry_out(device, array, pins, levels, under, sent, response);
-            device = done.device;
-            missing += done.missing;
+            // here and not in `carry_out`: else the record is copied where nothing ends
+            if pins.ends(levels) {
+                let done = carry_out(device, array, levels, under, sent, response);
+                device = done.device;
+                missing += done.missing;
+            }
             under = Underway::none();
+            pins = pins.on_select(levels);
         }
-        let selected = pins.on_select(levels);
-        under = under.clocked(device, array, sent, selected, levels);
-        pins = selected.on_hold(levels);
+        // no change to it: so that the compiler reads it from this sample alone
+        pins.select = levels.select;
+        under = under.clocked(device, array, sent, pins, levels);
+        pins = pins.on_hold(levels);
         output[i] = under.output(pins);
+        holding = pins.holding;
+        before = *sample;
     }
     Tally { device, missing }
 }

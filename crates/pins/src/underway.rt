@@ -8,14 +8,31 @@ ghost use Rattle.pins.specs.Counted.{pins_of, none_yet, bit_now, level, shown_on
 use crate::levels::{Kept, Levels};
 use device::Device;
 
-// Whole bytes, further pulses and the register that the data is shifted into; the byte that is driven after the whole bytes, if one is; the bit that shows since the last fall of the clock, if one does.
+// A bit that shows, with its output byte: low, high, or nothing where none does.
+#[derive(Clone, Copy, Debug, PartialEq, Eq)]
+pub enum Bit {
+    Low = 0,
+    High = 1,
+    Nothing = 2,
+}
+
+// The output byte.
+impl From<Bit> for u8 {
+    ghost from_gives = { λ bit number. number ≡ level bit };
+
+    fn from(bit: Bit) -> u8 {
+        bit as u8
+    }
+}
+
+// Whole bytes, further pulses and the register that the data is shifted into; the byte that is driven after the whole bytes, if one is; the bit that shows since the last fall of the clock.
 #[derive(Clone, Copy, Debug, PartialEq, Eq)]
 pub struct Underway {
     pub whole: usize,
     pub pulses: u32,
     pub register: u32,
     pub driven: Option<u8>,
-    pub bit: Option<bool>,
+    pub bit: Bit,
 }
 
 // The register with one bit more.
@@ -26,16 +43,16 @@ fn shift_in(register: u32, bit: bool) -> u32
     if bit { up + 1 } else { up }
 }
 
-// An output byte that shows no bit.
-const NOTHING: u8 = 2;
-
 // Bit 7 - k of a driven byte. That pulses are fewer than 8 is a clause here and below: `none_yet`, `shown_on` and `Taken` build and read the plain record.
-fn bit_now(driven: Option<u8>, k: u32) -> Option<bool>
+fn bit_now(driven: Option<u8>, k: u32) -> Bit
     requires { k < 8 }
     ensures { result ≡ bit_now driven k }
 {
-    let byte = driven?;
-    Some((byte >> (7 - k)) % 2 == 1)
+    match driven {
+        None => Bit::Nothing,
+        Some(byte) if (byte >> (7 - k)) % 2 == 1 => Bit::High,
+        Some(_) => Bit::Low,
+    }
 }
 
 impl Underway {
@@ -48,7 +65,7 @@ impl Underway {
             pulses: 0,
             register: 0,
             driven: None,
-            bit: None,
+            bit: Bit::Nothing,
         }
     }
 
@@ -100,6 +117,10 @@ impl Underway {
         requires { (self.pulses < 8) × (takes (pins_of pins) levels ≡ true → self.pulses ≡ 7 → self.whole < length sent.old) }
         ensures { Clocked self device array.now sent.old (pins_of pins) levels result sent.new }
     {
+        // first, in one test: neither takes nor moves anything then
+        if pins.select | pins.holding {
+            return self;
+        }
         if pins.takes(levels) {
             return self.bit_taken(device, array, sent, levels.data);
         }
@@ -114,11 +135,8 @@ impl Underway {
         ensures { result ≡ cond (pins.select || pins.holding) 2 (level self.bit) }
     {
         if pins.select || pins.holding {
-            return NOTHING;
+            return u8::from(Bit::Nothing);
         }
-        match self.bit {
-            Some(bit) => u8::from(bit),
-            None => NOTHING,
-        }
+        u8::from(self.bit)
     }
 }
