@@ -8,3 +8,4 @@ pub mod Singly
 pub mod Append
 pub mod Theorems
 pub mod Protected
+pub mod Outcomes
