@@ -39,14 +39,14 @@ struct Told {
 }
 
 // A row of chips beside their bytes.
-#[derive(Drop)]
+#[derive(Clone, Copy)]
 struct Bus<const N: usize> {
     row: [Device; PLACES],
     array: [u8; N],
 }
 
 // The bus of each entry, and whether all was the same so far.
-#[derive(Drop)]
+#[derive(Clone, Copy)]
 pub struct Two<const N: usize> {
     lent: Bus<N>,
     plain: Bus<N>,
