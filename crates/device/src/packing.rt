@@ -1,9 +1,8 @@
 // The record packed in bytes, and read back.
 ghost use Rattle.std.specs.Prelude.{◌≡◌, ◌&&◌, ◌++◌, ◌+◌, ◌≤◌, take, drop};
-ghost use Rattle.refusals.specs.Numbers.{answer_of};
 ghost use Rattle.slices.specs.Bytes.{same_bytes, word};
 ghost use Rattle.slices.specs.Changed.{map_at, stored};
-ghost use Rattle.device.specs.Packing.{packed_length, front_length, named_place, mode_number, ticks_of, mode_of, head_of, cycle_head, front_of, pack_of, cycle_at, fields_of, pack_answer, Packed, unpack_of};
+ghost use Rattle.device.specs.Packing.{packed_length, front_length, named_place, mode_number, ticks_of, mode_of, head_of, cycle_head, front_of, pack_of, cycle_at, fields_of, Packed, unpack_of};
 
 use crate::cycle::{Cycle, Kind};
 use crate::locks::REGISTERS;
@@ -154,28 +153,21 @@ fn agrees(d: Device, b: &[u8; LENGTH]) -> bool
 {
     let mut front = [0; FRONT];
     write_front(d, &mut front);
-    b[..FRONT] == front[..] && b[NAMED..LOCKS] == d.cycle.named.to_le_bytes()[..]
-}
-
-// Whether a record can be packed into so many bytes: 8 where they are not `LENGTH`, 6 where the record is not sound.
-fn packs(d: Device, room: usize) -> Result<(), Refusal>
-    ensures { answer_of result ≡ pack_answer d room }
-{
-    if room != LENGTH {
-        return Err(Refusal::PackedLength);
-    }
-    if !d.sound() {
-        return Err(Refusal::NotSound);
-    }
-    Ok(())
+    // arrays and not slices: their lengths are known, and the compiler compares them in place
+    let begun: [u8; FRONT] = part_in(b, 0);
+    let named: [u8; 4] = part_in(b, NAMED);
+    begun == front && named == d.cycle.named.to_le_bytes()
 }
 
 // Packs a record. The answer is a number, as `Packed` has it: 8 where `out` is not of `LENGTH` bytes, 6 where the record is not sound, with nothing written; else 0.
 pub fn pack(d: Device, out: &mut [u8]) -> u8
     ensures { Packed d out.old result out.new }
 {
-    if let Err(refusal) = packs(d, out.len()) {
-        return refusal.into();
+    if out.len() != LENGTH {
+        return Refusal::PackedLength.into();
+    }
+    if !d.sound() {
+        return Refusal::NotSound.into();
     }
     write(d, out);
     0
