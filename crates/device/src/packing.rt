@@ -160,6 +160,8 @@ fn agrees(d: Device, b: &[u8; LENGTH]) -> bool
 }
 
 // Packs a record. The answer is a number, as `Packed` has it: 8 where `out` is not of `LENGTH` bytes, 6 where the record is not sound, with nothing written; else 0.
+// Inlined: where the caller's bytes are an array, the compiler then writes each field in place.
+#[inline(always)]
 pub fn pack(d: Device, out: &mut [u8]) -> u8
     ensures { Packed d out.old result out.new }
 {
